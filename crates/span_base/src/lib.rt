@@ -2,6 +2,20 @@
 //! spelled in every format, the words of faults, and the outside as traits.
 #![tactic(auto)]
 
+mod bytes;
+mod dc_set;
+mod ids;
+mod listed;
+mod policy;
+mod value;
+mod word;
 mod words;
 
+pub use bytes::Bytes;
+pub use dc_set::{CENTRES, DcSet};
+pub use ids::{Call, DcId, KeyId, SetId};
+pub use listed::Listed;
+pub use policy::{Hop, Near, Policy, Quorum};
+pub use value::{VALUE_LIMIT, Value};
+pub use word::Word;
 pub use words::{Cause, What};

@@ -1,0 +1,155 @@
+-- Laws of sets of centres.
+use Rattle.std.proofs.Common.{◌≡◌, ℕ, ◌<◌, ◌≤◌, ◌+◌, ◌*◌, ◌/◌, ◌%◌, ◌^◌, ◌⊎◌, inl, inr, suc, zero, Bool, true, false, cond, not, ◌&&◌, ◌||◌, List, [], ◌∷◌, ◌++◌, length, refl, sym, ◌∙◌, ap, subst, arith, IsTrue, bit_and, bit_or, min, max, nat_lt, ◌==◌, ◌≢◌, ◌↔◌}
+use Rattle.std.proofs.lemmas.Nat.{and_comm, or_comm}
+use Rattle.std.proofs.lemmas.Nat.Bits.{bit_at_and, bit_at_or, bit_at-pow_same, bit_at-pow_other, bit_at-lt, bit_at_above, bit_at-zero, same_from_bits_below, bit_at-suc, bit_at_lowest}
+use Rattle.std.specs.Int.{bit_at}
+use Rattle.std.specs.Int.Count.{ones, ones_step}
+use Rattle.std.specs.List.{filter, range_with_len}
+use Rattle.std.proofs.lemmas.List.Elements.{filter-append}
+use Rattle.std.proofs.lemmas.Bool.{lt-ltb}
+use Rattle.std.proofs.Math.Pow.{shr_lt}
+use Rattle.std.proofs.Math.Nat.{pow-suc, div-one, div-div-eq-div-mul}
+use Rattle.span_base.specs.DcSet.{DcSet, bits_of, has, centres_below, centres_of, no_centre, meet, join, insert}
+
+min-one : (x y : ℕ) → x < 2 → y < 2 → (min x y == 1) ≡ ((x == 1) && (y == 1))
+min-one zero zero h k = refl
+min-one zero (suc zero) h k = refl
+min-one zero (suc (suc y)) h k = absurd (omega arith)
+min-one (suc zero) zero h k = refl
+min-one (suc zero) (suc zero) h k = refl
+min-one (suc zero) (suc (suc y)) h k = absurd (omega arith)
+min-one (suc (suc x)) y h k = absurd (omega arith)
+
+max-one : (x y : ℕ) → x < 2 → y < 2 → (max x y == 1) ≡ ((x == 1) || (y == 1))
+max-one zero zero h k = refl
+max-one zero (suc zero) h k = refl
+max-one zero (suc (suc y)) h k = absurd (omega arith)
+max-one (suc zero) zero h k = refl
+max-one (suc zero) (suc zero) h k = refl
+max-one (suc zero) (suc (suc y)) h k = absurd (omega arith)
+max-one (suc (suc x)) y h k = absurd (omega arith)
+
+guard-and : (c a b : Bool) → (c && (a && b)) ≡ ((c && a) && (c && b))
+guard-and true a b = refl
+guard-and false a b = refl
+
+guard-or : (c a b : Bool) → (c && (a || b)) ≡ ((c && a) || (c && b))
+guard-or true a b = refl
+guard-or false a b = refl
+
+-- a centre is in the meet of two sets where it is in both
+pub has-meet : (s t : DcSet) (d : ℕ) → has (meet s t) d ≡ (has s d && has t d)
+has-meet s t d =
+    ap (λ x. nat_lt d 16 && (x == 1)) (bit_at_and (bits_of s) (bits_of t) d)
+    ∙ ap (λ x. nat_lt d 16 && x) (min-one (bit_at (bits_of s) d) (bit_at (bits_of t) d) (bit_at-lt _ _) (bit_at-lt _ _))
+    ∙ guard-and (nat_lt d 16) (bit_at (bits_of s) d == 1) (bit_at (bits_of t) d == 1)
+
+-- a centre is in the join of two sets where it is in one of them
+pub has-join : (s t : DcSet) (d : ℕ) → has (join s t) d ≡ (has s d || has t d)
+has-join s t d =
+    ap (λ x. nat_lt d 16 && (x == 1)) (bit_at_or (bits_of s) (bits_of t) d)
+    ∙ ap (λ x. nat_lt d 16 && x) (max-one (bit_at (bits_of s) d) (bit_at (bits_of t) d) (bit_at-lt _ _) (bit_at-lt _ _))
+    ∙ guard-or (nat_lt d 16) (bit_at (bits_of s) d == 1) (bit_at (bits_of t) d == 1)
+
+-- the empty set has no centre
+pub has-no_centre : (d : ℕ) → has no_centre d ≡ false
+has-no_centre d = ap (λ x. nat_lt d 16 && (x == 1)) (bit_at-zero d) ∙ elim (nat_lt d 16) as (λ c. (c && false) ≡ false) [ true ↦ refl | false ↦ refl ]
+
+or_true : (b : Bool) → (b || true) ≡ true
+or_true true = refl
+or_true false = refl
+
+or_false : (b : Bool) → (b || false) ≡ b
+or_false true = refl
+or_false false = refl
+
+-- a bit of a set to which a centre is added
+bit-insert : (s : DcSet) (d e x : ℕ) → x < 2 → bit_at (2 ^ d) e ≡ x → (bit_at (bits_of (insert s d)) e == 1) ≡ ((bit_at (bits_of s) e == 1) || (x == 1))
+bit-insert s d e x h is =
+    ap (λ y. y == 1) (bit_at_or (bits_of s) (2 ^ d) e)
+    ∙ max-one (bit_at (bits_of s) e) (bit_at (2 ^ d) e) (bit_at-lt _ _) (bit_at-lt _ _)
+    ∙ ap (λ y. (bit_at (bits_of s) e == 1) || (y == 1)) is
+
+-- a set to which a centre is added has it
+pub has-insert_same : (s : DcSet) (d : ℕ) → d < 16 → has (insert s d) d ≡ true
+has-insert_same s d h =
+    ap (λ b. b && (bit_at (bits_of (insert s d)) d == 1)) (lt-ltb d 16 h)
+    ∙ bit-insert s d d 1 (omega arith) (bit_at-pow_same d)
+    ∙ or_true (bit_at (bits_of s) d == 1)
+
+-- and it has what it had
+pub has-insert_other : (s : DcSet) (d e : ℕ) → e ≢ d → has (insert s d) e ≡ has s e
+has-insert_other s d e ne =
+    ap (λ b. nat_lt e 16 && b) (bit-insert s d e 0 (omega arith) (bit_at-pow_other d e ne) ∙ or_false (bit_at (bits_of s) e == 1))
+
+-- no number from 16 on is in a set
+pub has-below : (s : DcSet) (d : ℕ) → has s d ≡ true → d < 16
+has-below s d h = grind (arith)
+
+pub meet_comm : (s t : DcSet) → meet s t ≡ meet t s
+meet_comm s t = ap (λ n. let r : DcSet = record { bits = n } in r) (and_comm (bits_of s) (bits_of t))
+
+pub join_comm : (s t : DcSet) → join s t ≡ join t s
+join_comm s t = ap (λ n. let r : DcSet = record { bits = n } in r) (or_comm (bits_of s) (bits_of t))
+
+same-one : (x y : ℕ) → x < 2 → y < 2 → (x == 1) ≡ (y == 1) → x ≡ y
+same-one zero zero h k e = refl
+same-one zero (suc zero) h k e = cc
+same-one zero (suc (suc y)) h k e = absurd (omega arith)
+same-one (suc zero) zero h k e = cc
+same-one (suc zero) (suc zero) h k e = refl
+same-one (suc zero) (suc (suc y)) h k e = absurd (omega arith)
+same-one (suc (suc x)) y h k e = absurd (omega arith)
+
+-- below 16 a centre is in a set where its bit is set
+has-bit : (s : DcSet) (d : ℕ) → d < 16 → has s d ≡ (bit_at (bits_of s) d == 1)
+has-bit s d h = ap (λ b. b && (bit_at (bits_of s) d == 1)) (lt-ltb d 16 h)
+
+-- two sets that have the same centres are the same
+pub same_set : (s t : DcSet) → bits_of s < 2 ^ 16 → bits_of t < 2 ^ 16 → ((d : ℕ) → d < 16 → has s d ≡ has t d) → s ≡ t
+same_set s t low high same =
+    let e : bits_of s ≡ bits_of t = same_from_bits_below 16 (bits_of s) (bits_of t) low high
+    (λ d h. same-one _ _ (bit_at-lt (bits_of s) d) (bit_at-lt (bits_of t) d) (sym (has-bit s d h) ∙ same d h ∙ has-bit t d h)) in
+    ap (λ n. let r : DcSet = record { bits = n } in r) e
+
+count_cond : (b : Bool) (d : ℕ) (ds : List ℕ) → length (cond b (d ∷ ds) ds) ≡ cond b 1 0 + length ds
+count_cond true d ds = omega arith
+count_cond false d ds = omega arith
+
+one-bit : (x : ℕ) → x < 2 → cond (x == 1) 1 0 ≡ x
+one-bit zero h = refl
+one-bit (suc zero) h = refl
+one-bit (suc (suc x)) h = absurd (omega arith)
+
+ones-zero : ones 0 ≡ 0
+unfolding ones
+ones-zero = refl
+
+-- what the bits from j on count is how many of the centres from j on the set has
+ones_from : (s : DcSet) (k j : ℕ) → j + k ≡ 16 → bits_of s < 2 ^ 16 → ones (bits_of s / 2 ^ j) ≡ length (filter (has s) (range_with_len j k))
+ones_from s zero j all low =
+    let at : j ≡ 16 = omega arith in
+    let none : bits_of s / 2 ^ 16 < 2 ^ 0 = shr_lt 0 16 low in
+    let none' : bits_of s / 2 ^ 16 ≡ 0 = omega arith in
+    rw (at, none') ones-zero
+ones_from s (suc k) j all low =
+    ones_step (bits_of s / 2 ^ j)
+    ∙ (let rest : bits_of s / 2 ^ j / 2 ≡ bits_of s / 2 ^ (j + 1) = div-div-eq-div-mul (bits_of s) (2 ^ j) 2 ∙ ap (λ x. bits_of s / x) (sym (pow-suc 2 j)) ∙ ap (λ x. bits_of s / 2 ^ x) (omega arith) in
+    let more : ones (bits_of s / 2 ^ j / 2) ≡ length (filter (has s) (range_with_len (j + 1) k)) = ap ones rest ∙ ones_from s k (j + 1) (omega arith) low in
+    let here : cond (has s j) 1 0 ≡ bit_at (bits_of s) j = ap (λ b. cond b 1 0) (has-bit s j (omega arith)) ∙ one-bit _ (bit_at-lt (bits_of s) j) in
+    omega (arith, more, here, count_cond (has s j) j (filter (has s) (range_with_len (j + 1) k))))
+
+-- the centres below n are those of 0 to n - 1 that the set has
+pub centres_below-is : (s : DcSet) (n : ℕ) → centres_below s n ≡ filter (has s) (range_with_len 0 n)
+unfolding centres_below
+centres_below-is s n = refl
+
+-- the centres of a set are those below 16
+pub centres_of-is : (s : DcSet) → centres_of s ≡ centres_below s 16
+unfolding centres_of
+centres_of-is s = refl
+
+-- the number of bits that are set is the number of centres
+pub ones-bits_of : (s : DcSet) → bits_of s < 2 ^ 16 → ones (bits_of s) ≡ length (centres_of s)
+ones-bits_of s low =
+    ap ones (sym (div-one (bits_of s))) ∙ ones_from s 16 0 refl low ∙ ap length (sym (centres_of-is s ∙ centres_below-is s 16))

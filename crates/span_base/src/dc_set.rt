@@ -1,0 +1,76 @@
+ghost use Rattle.std.specs.Prelude.{◌≡◌, ℕ, ◌<◌, length};
+
+use crate::ids::DcId;
+
+/// How many centres there can be: a set holds centres 0 to 15.
+pub const CENTRES: u8 = 16;
+
+/// A set of centres, one bit for each: bit `d`, counted from the least, is set where centre `d`
+/// is in the set.
+#[derive(Clone, Copy, Debug, PartialEq, Eq)]
+pub struct DcSet {
+    bits: u16,
+}
+
+impl DcSet {
+    ghost use Rattle.span_base.specs.DcSet.{bits_of, has, centres_of, no_centre, meet, join, insert};
+
+    pub fn empty() -> DcSet
+        ensures { result ≡ no_centre }
+    {
+        DcSet { bits: 0 }
+    }
+
+    pub fn from_bits(bits: u16) -> DcSet
+        ensures { bits_of result ≡ bits }
+    {
+        DcSet { bits }
+    }
+
+    pub fn bits(self) -> u16
+        ensures { result ≡ bits_of self }
+    {
+        self.bits
+    }
+
+    /// The set with `dc` in it too.
+    pub fn with(self, dc: DcId) -> DcSet
+        requires { dc.0 < CENTRES }
+        ensures { result ≡ insert self dc.0 }
+    {
+        DcSet {
+            bits: self.bits | 1 << dc.0,
+        }
+    }
+
+    /// False of any number from 16 on.
+    pub fn has(&self, dc: DcId) -> bool
+        ensures { result ≡ has self.now dc.0 }
+    {
+        dc.0 < CENTRES && self.bits >> dc.0 & 1 == 1
+    }
+
+    pub fn count(&self) -> u32
+        ensures { result ≡ length (centres_of self.now) }
+    {
+        self.bits.count_ones()
+    }
+
+    /// The centres that are in both sets.
+    pub fn meet(&self, other: &DcSet) -> DcSet
+        ensures { result ≡ meet self.now other.now }
+    {
+        DcSet {
+            bits: self.bits & other.bits,
+        }
+    }
+
+    /// The centres that are in one of the sets, or in both.
+    pub fn join(&self, other: &DcSet) -> DcSet
+        ensures { result ≡ join self.now other.now }
+    {
+        DcSet {
+            bits: self.bits | other.bits,
+        }
+    }
+}
