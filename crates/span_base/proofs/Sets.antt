@@ -153,3 +153,66 @@ centres_of-is s = refl
 pub ones-bits_of : (s : DcSet) → bits_of s < 2 ^ 16 → ones (bits_of s) ≡ length (centres_of s)
 ones-bits_of s low =
     ap ones (sym (div-one (bits_of s))) ∙ ones_from s 16 0 refl low ∙ ap length (sym (centres_of-is s ∙ centres_below-is s 16))
+
+length-filter_le : (p : ℕ → Bool) (xs : List ℕ) → length (filter p xs) ≤ length xs
+length-filter_le p [] = omega arith
+length-filter_le p (x ∷ xs) = omega (arith, count_cond (p x) x (filter p xs), cond_le (p x), length-filter_le p xs)
+  where
+    cond_le : (b : Bool) → cond b 1 0 ≤ 1
+    cond_le true = omega arith
+    cond_le false = omega arith
+
+-- a set has at most 16 centres
+pub count_le : (s : DcSet) → length (centres_of s) ≤ 16
+count_le s =
+    let all : length (filter (has s) (range_with_len 0 16)) ≤ length (range_with_len 0 16) = length-filter_le (has s) (range_with_len 0 16) in
+    rw (centres_of-is, centres_below-is) all
+
+-- a filter that passes no more keeps no more
+count_mono : (p q : ℕ → Bool) → ((x : ℕ) → p x ≡ true → q x ≡ true) → (xs : List ℕ) → length (filter p xs) ≤ length (filter q xs)
+count_mono p q more [] = omega arith
+count_mono p q more (x ∷ xs) = step (p x) (q x) (more x) (count_mono p q more xs)
+  where
+    step : (a b : Bool) → (a ≡ true → b ≡ true) → length (filter p xs) ≤ length (filter q xs) → length (cond a (x ∷ filter p xs) (filter p xs)) ≤ length (cond b (x ∷ filter q xs) (filter q xs))
+    step true true h k = omega arith
+    step true false h k = let e : false ≡ true = h refl in cc
+    step false true h k = omega arith
+    step false false h k = k
+
+and_left : (a b : Bool) → (a && b) ≡ true → a ≡ true
+and_left true b h = refl
+and_left false b h = h
+
+-- the meet of two sets has no more centres than either
+pub count-meet_left : (s t : DcSet) → length (centres_of (meet s t)) ≤ length (centres_of s)
+count-meet_left s t =
+    let all : length (filter (has (meet s t)) (range_with_len 0 16)) ≤ length (filter (has s) (range_with_len 0 16)) =
+        count_mono (has (meet s t)) (has s) (λ d h. and_left (has s d) (has t d) (sym (has-meet s t d) ∙ h)) (range_with_len 0 16) in
+    rw (centres_of-is, centres_of-is, centres_below-is, centres_below-is) all
+
+pub count-meet_right : (s t : DcSet) → length (centres_of (meet s t)) ≤ length (centres_of t)
+count-meet_right s t = rw (meet_comm s t) (count-meet_left t s)
+
+pub count-no_centre : length (centres_of no_centre) ≡ 0
+unfolding centres_of centres_below
+count-no_centre = refl
+
+range_more : (a n : ℕ) → range_with_len a (suc n) ≡ range_with_len a n ++ (a + n) ∷ []
+range_more a zero = ap (λ x. x ∷ []) (omega arith)
+range_more a (suc n) =
+    let there : a + 1 + n ≡ a + suc n = omega arith in
+    ap (λ xs. a ∷ xs) (range_more (a + 1) n ∙ ap (λ x. range_with_len (a + 1) n ++ x ∷ []) there)
+
+-- the centres below n + 1 are those below n, and n where the set has it
+pub centres_below-more : (s : DcSet) (n : ℕ) → centres_below s (n + 1) ≡ centres_below s n ++ cond (has s n) (n ∷ []) []
+unfolding centres_below
+centres_below-more s n =
+    let suc_is : n + 1 ≡ suc n = omega arith in
+    let here : 0 + n ≡ n = omega arith in
+    ap (λ k. filter (has s) (range_with_len 0 k)) suc_is
+    ∙ ap (filter (has s)) (range_more 0 n ∙ ap (λ x. range_with_len 0 n ++ x ∷ []) here)
+    ∙ filter-append (has s) (range_with_len 0 n) (n ∷ [])
+
+pub centres_below-zero : (s : DcSet) → centres_below s 0 ≡ []
+unfolding centres_below
+centres_below-zero s = refl

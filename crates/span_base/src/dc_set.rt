@@ -1,4 +1,4 @@
-ghost use Rattle.std.specs.Prelude.{◌≡◌, ℕ, ◌<◌, length};
+ghost use Rattle.std.specs.Prelude.{◌≡◌, ℕ, ◌<◌, ◌≤◌, ◌≢◌, ◌&&◌, ◌||◌, true, false, IsTrue, length};
 
 use crate::ids::DcId;
 
@@ -16,7 +16,8 @@ impl DcSet {
     ghost use Rattle.span_base.specs.DcSet.{bits_of, has, centres_of, no_centre, meet, join, insert};
 
     pub fn empty() -> DcSet
-        ensures { result ≡ no_centre }
+        ensures set { result ≡ no_centre }
+        ensures has { (d : ℕ) → has result d ≡ false }
     {
         DcSet { bits: 0 }
     }
@@ -36,7 +37,9 @@ impl DcSet {
     /// The set with `dc` in it too.
     pub fn with(self, dc: DcId) -> DcSet
         requires { dc.0 < CENTRES }
-        ensures { result ≡ insert self dc.0 }
+        ensures set { result ≡ insert self dc.0 }
+        ensures same { has result dc.0 ≡ true }
+        ensures other { (d : ℕ) → d ≢ dc.0 → has result d ≡ has self d }
     {
         DcSet {
             bits: self.bits | 1 << dc.0,
@@ -45,20 +48,23 @@ impl DcSet {
 
     /// False of any number from 16 on.
     pub fn has(&self, dc: DcId) -> bool
-        ensures { result ≡ has self.now dc.0 }
+        ensures member { result ≡ has self.now dc.0 }
+        ensures limit { IsTrue result → dc.0 < CENTRES }
     {
         dc.0 < CENTRES && self.bits >> dc.0 & 1 == 1
     }
 
     pub fn count(&self) -> u32
-        ensures { result ≡ length (centres_of self.now) }
+        ensures count { result ≡ length (centres_of self.now) }
+        ensures limit { result ≤ CENTRES }
     {
         self.bits.count_ones()
     }
 
     /// The centres that are in both sets.
     pub fn meet(&self, other: &DcSet) -> DcSet
-        ensures { result ≡ meet self.now other.now }
+        ensures set { result ≡ meet self.now other.now }
+        ensures has { (d : ℕ) → has result d ≡ (has self.now d && has other.now d) }
     {
         DcSet {
             bits: self.bits & other.bits,
@@ -67,7 +73,8 @@ impl DcSet {
 
     /// The centres that are in one of the sets, or in both.
     pub fn join(&self, other: &DcSet) -> DcSet
-        ensures { result ≡ join self.now other.now }
+        ensures set { result ≡ join self.now other.now }
+        ensures has { (d : ℕ) → has result d ≡ (has self.now d || has other.now d) }
     {
         DcSet {
             bits: self.bits | other.bits,
