@@ -1,1 +1,3 @@
+pub mod Breaks
 pub mod Sets
+pub mod Spelling

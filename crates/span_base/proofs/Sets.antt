@@ -1,7 +1,7 @@
 -- Laws of sets of centres.
-use Rattle.std.proofs.Common.{◌≡◌, ℕ, ◌<◌, ◌≤◌, ◌+◌, ◌*◌, ◌/◌, ◌%◌, ◌^◌, ◌⊎◌, inl, inr, suc, zero, Bool, true, false, cond, not, ◌&&◌, ◌||◌, List, [], ◌∷◌, ◌++◌, length, refl, sym, ◌∙◌, ap, subst, arith, IsTrue, bit_and, bit_or, min, max, nat_lt, ◌==◌, ◌≢◌, ◌↔◌}
+use Rattle.std.proofs.Common.{◌≡◌, ℕ, ◌<◌, ◌≤◌, ◌+◌, ◌/◌, ◌^◌, suc, zero, Bool, true, false, cond, ◌&&◌, ◌||◌, List, [], ◌∷◌, ◌++◌, length, refl, sym, ◌∙◌, ap, arith, min, max, nat_lt, ◌==◌, ◌≢◌}
 use Rattle.std.proofs.lemmas.Nat.{and_comm, or_comm}
-use Rattle.std.proofs.lemmas.Nat.Bits.{bit_at_and, bit_at_or, bit_at-pow_same, bit_at-pow_other, bit_at-lt, bit_at_above, bit_at-zero, same_from_bits_below, bit_at-suc, bit_at_lowest}
+use Rattle.std.proofs.lemmas.Nat.Bits.{bit_at_and, bit_at_or, bit_at-pow_same, bit_at-pow_other, bit_at-lt, bit_at-zero, same_from_bits_below}
 use Rattle.std.specs.Int.{bit_at}
 use Rattle.std.specs.Int.Count.{ones, ones_step}
 use Rattle.std.specs.List.{filter, range_with_len}
@@ -187,7 +187,7 @@ and_left false b h = h
 pub count-meet_left : (s t : DcSet) → length (centres_of (meet s t)) ≤ length (centres_of s)
 count-meet_left s t =
     let all : length (filter (has (meet s t)) (range_with_len 0 16)) ≤ length (filter (has s) (range_with_len 0 16)) =
-        count_mono (has (meet s t)) (has s) (λ d h. and_left (has s d) (has t d) (sym (has-meet s t d) ∙ h)) (range_with_len 0 16) in
+    count_mono (has (meet s t)) (has s) (λ d h. and_left (has s d) (has t d) (sym (has-meet s t d) ∙ h)) (range_with_len 0 16) in
     rw (centres_of-is, centres_of-is, centres_below-is, centres_below-is) all
 
 pub count-meet_right : (s t : DcSet) → length (centres_of (meet s t)) ≤ length (centres_of t)

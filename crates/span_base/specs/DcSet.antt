@@ -1,5 +1,5 @@
 -- What is said of a set of centres. A centre is a number below 16.
-use Rattle.std.specs.Prelude.{◌≡◌, ℕ, ◌^◌, ◌<◌, Bool, true, ◌&&◌, nat_lt, ◌==◌, List, bit_and, bit_or}
+use Rattle.std.specs.Prelude.{ℕ, ◌^◌, Bool, ◌&&◌, nat_lt, ◌==◌, List, bit_and, bit_or}
 use Rattle.std.specs.List.{filter, range_with_len}
 use Rattle.std.specs.Int.{bit_at}
 pub use Rattle.span_base.specs.declared.dc_set.DcSet.{DcSet}

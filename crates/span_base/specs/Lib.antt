@@ -1,1 +1,4 @@
 pub mod DcSet
+pub mod Grammar
+pub mod Name
+pub mod Number

@@ -1,5 +1,5 @@
 use Rattle.std.proofs.Common.{rules, ap, ◌∙◌, ◌≡◌, ◌*◌, ◌%◌, ◌^◌, bit_or, ℕ}
-use Rattle.span_base.specs.DcSet.{DcSet, has, bits_of}
+use Rattle.span_base.specs.DcSet.{DcSet, has}
 use Rattle.span_base.proofs.Sets.{has-insert_same, has-insert_other}
 use Rattle.span_base.proofs.dc_set.DcSet.with.Goals as goal
 
