@@ -1,3 +1,4 @@
 pub mod Breaks
+pub mod Distinct
 pub mod Sets
 pub mod Spelling

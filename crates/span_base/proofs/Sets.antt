@@ -105,6 +105,13 @@ same-one (suc (suc x)) y h k e = absurd (omega arith)
 has-bit : (s : DcSet) (d : ℕ) → d < 16 → has s d ≡ (bit_at (bits_of s) d == 1)
 has-bit s d h = ap (λ b. b && (bit_at (bits_of s) d == 1)) (lt-ltb d 16 h)
 
+-- two sets of the same bits are the same
+pub same_bits : (s t : DcSet) → bits_of s ≡ bits_of t → s ≡ t
+same_bits s t e =
+    ap (λ n.
+        let r : DcSet = record { bits = n } in
+        r) e
+
 -- two sets that have the same centres are the same
 pub same_set : (s t : DcSet) → bits_of s < 2 ^ 16 → bits_of t < 2 ^ 16 → ((d : ℕ) → d < 16 → has s d ≡ has t d) → s ≡ t
 same_set s t low high same =
