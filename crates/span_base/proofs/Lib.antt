@@ -1,4 +1,5 @@
 pub mod Breaks
 pub mod Distinct
+pub mod Lanes
 pub mod Sets
 pub mod Spelling

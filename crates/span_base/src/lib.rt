@@ -4,6 +4,7 @@
 
 mod bytes;
 mod dc_set;
+mod hops;
 mod ids;
 mod listed;
 mod members;
@@ -11,6 +12,7 @@ mod name;
 mod number;
 mod policy;
 mod quorum;
+mod sound;
 mod value;
 mod word;
 mod words;
@@ -24,6 +26,7 @@ pub use name::{BadName, NAME_BYTES, read_name};
 pub use number::{NUMBER_DIGITS, NumberFault, read_number};
 pub use policy::{Hop, Near, Policy, Quorum};
 pub use quorum::{FAULTS, is_quorum};
+pub use sound::is_sound;
 pub use value::{VALUE_LIMIT, Value};
 pub use word::Word;
 pub use words::{Cause, What};
