@@ -7,34 +7,11 @@ use Rattle.span_base.specs.DcSet.{DcSet, has, centres_below, centres_of}
 use Rattle.std.proofs.lemmas.Bool.{true≢false, eqb-true}
 use Rattle.span_base.specs.declared.policy.Hop.{Hop}
 use Rattle.span_base.specs.Policy.{lane_of, lanes_of}
-use Rattle.span_base.proofs.Sets.{centres_of-is, centres_below-is, centres_below-more, centres_below-zero}
-
-range-append : (a m n : ℕ) → range_with_len a (m + n) ≡ range_with_len a m ++ range_with_len (a + m) n
-range-append a zero n =
-    let e : zero + n ≡ n = omega arith in
-    let f : a + 0 ≡ a = omega arith in
-    rw (e, f) refl
-range-append a (suc m) n =
-    let e : suc m + n ≡ suc (m + n) = omega arith in
-    let f : a + 1 + m ≡ a + suc m = omega arith in
-    ap (range_with_len a) e ∙ ap (λ xs. a ∷ xs) (range-append (a + 1) m n ∙ ap (λ k. range_with_len (a + 1) m ++ range_with_len k n) f)
+use Rattle.span_base.proofs.Sets.{centres_of-split, centres_of-is, centres_below-is, centres_below-more, centres_below-zero}
 
 -- the lanes of the centres below n
 abbrev pub lanes_below : DcSet → ℕ → ℕ → List (ℕ × ℕ)
 lanes_below s m n = map (λ d. (m, d)) (centres_below s n)
-
--- a centre of the set stands after those below it
-centres-split : (s : DcSet) (d : ℕ) → d < 16 → has s d ≡ true → centres_of s ≡ centres_below s d ++ d ∷ filter (has s) (range_with_len (d + 1) (15 - d))
-centres-split s d low here =
-    let e : 16 ≡ d + suc (15 - d) = omega arith in
-    let f : 0 + d ≡ d = omega arith in
-    centres_of-is s ∙ centres_below-is s 16
-    ∙ ap (λ k. filter (has s) (range_with_len 0 k)) e
-    ∙ ap (filter (has s)) (range-append 0 d (suc (15 - d)))
-    ∙ filter-append (has s) (range_with_len 0 d) (range_with_len (0 + d) (suc (15 - d)))
-    ∙ ap (λ k. filter (has s) (range_with_len 0 d) ++ filter (has s) (range_with_len k (suc (15 - d)))) f
-    ∙ ap (λ b. filter (has s) (range_with_len 0 d) ++ cond b (d ∷ filter (has s) (range_with_len (d + 1) (15 - d))) (filter (has s) (range_with_len (d + 1) (15 - d)))) here
-    ∙ ap (λ xs. xs ++ d ∷ filter (has s) (range_with_len (d + 1) (15 - d))) (sym (centres_below-is s d))
 
 -- where the lanes go on as they should, the next one is that of the next centre
 pub next_lane : (s : DcSet) (m d : ℕ) (lanes rest more : List (ℕ × ℕ)) → d < 16 → has s d ≡ true → lanes ≡ lanes_below s m d ++ rest → lanes ≡ lanes_of s m ++ more → (tail : List (ℕ × ℕ)) × (rest ≡ (m, d) ∷ tail)
@@ -42,7 +19,7 @@ next_lane s m d lanes rest more low here so_far whole =
     let later = filter (has s) (range_with_len (d + 1) (15 - d)) in
     let lane : ℕ → ℕ × ℕ = λ k. (m, k) in
     let parts : lanes_of s m ≡ lanes_below s m d ++ (m, d) ∷ map lane later =
-        ap (map lane) (centres-split s d low here) ∙ map-append lane (centres_below s d) (d ∷ later) in
+        ap (map lane) (centres_of-split s d low here) ∙ map-append lane (centres_below s d) (d ∷ later) in
     (map lane later ++ more,
      append_cancel_left (lanes_below s m d) rest ((m, d) ∷ (map lane later ++ more))
          (sym so_far ∙ whole ∙ ap (λ xs. xs ++ more) parts ∙ append_assoc (lanes_below s m d) ((m, d) ∷ map lane later) more))

@@ -1,5 +1,5 @@
 -- Laws of sets of centres.
-use Rattle.std.proofs.Common.{◌≡◌, ℕ, ◌<◌, ◌≤◌, ◌+◌, ◌/◌, ◌^◌, suc, zero, Bool, true, false, cond, ◌&&◌, ◌||◌, List, [], ◌∷◌, ◌++◌, length, refl, sym, ◌∙◌, ap, arith, min, max, nat_lt, ◌==◌, ◌≢◌}
+use Rattle.std.proofs.Common.{IsTrue, subst, slice_index, slice_index_or, ◌-◌, length-append, ◌≡◌, ℕ, ◌<◌, ◌≤◌, ◌+◌, ◌/◌, ◌^◌, suc, zero, Bool, true, false, cond, ◌&&◌, ◌||◌, List, [], ◌∷◌, ◌++◌, length, refl, sym, ◌∙◌, ap, arith, min, max, nat_lt, ◌==◌, ◌≢◌}
 use Rattle.std.proofs.lemmas.Nat.{and_comm, or_comm}
 use Rattle.std.proofs.lemmas.Nat.Bits.{bit_at_and, bit_at_or, bit_at-pow_same, bit_at-pow_other, bit_at-lt, bit_at-zero, same_from_bits_below}
 use Rattle.std.specs.Int.{bit_at}
@@ -9,6 +9,11 @@ use Rattle.std.proofs.lemmas.List.Elements.{filter-append}
 use Rattle.std.proofs.lemmas.Bool.{lt-ltb}
 use Rattle.std.proofs.Math.Pow.{shr_lt}
 use Rattle.std.proofs.Math.Nat.{pow-suc, div-one, div-div-eq-div-mul}
+use Rattle.std.specs.List.{All, Contains}
+use Rattle.std.specs.List.Sorted.{IsStrictlyIncreasing}
+use Rattle.std.proofs.lemmas.List.Kept.{IsStrictlyIncreasing-filter}
+use Rattle.std.proofs.lemmas.List.FromFn.{get_or-range_with_len, length-range_with_len}
+use Rattle.std.proofs.Math.Seq.{get_or-append_seam}
 use Rattle.span_base.specs.DcSet.{DcSet, bits_of, has, centres_below, centres_of, no_centre, meet, join, insert}
 
 min-one : (x y : ℕ) → x < 2 → y < 2 → (min x y == 1) ≡ ((x == 1) && (y == 1))
@@ -223,3 +228,61 @@ centres_below-more s n =
 pub centres_below-zero : (s : DcSet) → centres_below s 0 ≡ []
 unfolding centres_below
 centres_below-zero s = refl
+
+passes_more : (p : ℕ → Bool) (x : ℕ) (xs : List ℕ) (d : ℕ) (b : Bool) → p x ≡ b → ((i : ℕ) → i < length (filter p xs) → p (slice_index_or (filter p xs) i d) ≡ true) → (k : ℕ) → k < length (cond b (x ∷ filter p xs) (filter p xs)) → p (slice_index_or (cond b (x ∷ filter p xs) (filter p xs)) k d) ≡ true
+passes_more p x xs d true e rest zero low = e
+passes_more p x xs d true e rest (suc k) low = rest k (omega arith)
+passes_more p x xs d false e rest k low = rest k low
+
+passes : (p : ℕ → Bool) (xs : List ℕ) (k d : ℕ) → k < length (filter p xs) → p (slice_index_or (filter p xs) k d) ≡ true
+passes p [] k d h = absurd (omega arith)
+passes p (x ∷ xs) k d h = passes_more p x xs d (p x) refl (λ i low. passes p xs i d low) k h
+
+-- each centre that a set lists is in it
+pub All-centres_of : (s : DcSet) → All (λ d. IsTrue (has s d)) (centres_of s)
+All-centres_of s =
+    subst (All (λ d. IsTrue (has s d))) (sym (centres_of-is s ∙ centres_below-is s 16))
+        (λ k d within. passes (has s) (range_with_len 0 16) k d within)
+
+range-append : (a m n : ℕ) → range_with_len a (m + n) ≡ range_with_len a m ++ range_with_len (a + m) n
+range-append a zero n =
+    let e : zero + n ≡ n = omega arith in
+    let f : a + 0 ≡ a = omega arith in
+    rw (e, f) refl
+range-append a (suc m) n =
+    let e : suc m + n ≡ suc (m + n) = omega arith in
+    let f : a + 1 + m ≡ a + suc m = omega arith in
+    ap (range_with_len a) e ∙ ap (λ xs. a ∷ xs) (range-append (a + 1) m n ∙ ap (λ k. range_with_len (a + 1) m ++ range_with_len k n) f)
+
+-- a centre of the set stands after those below it
+pub centres_of-split : (s : DcSet) (d : ℕ) → d < 16 → has s d ≡ true → centres_of s ≡ centres_below s d ++ d ∷ filter (has s) (range_with_len (d + 1) (15 - d))
+centres_of-split s d low here =
+    let e : 16 ≡ d + suc (15 - d) = omega arith in
+    let f : 0 + d ≡ d = omega arith in
+    centres_of-is s ∙ centres_below-is s 16
+    ∙ ap (λ k. filter (has s) (range_with_len 0 k)) e
+    ∙ ap (filter (has s)) (range-append 0 d (suc (15 - d)))
+    ∙ filter-append (has s) (range_with_len 0 d) (range_with_len (0 + d) (suc (15 - d)))
+    ∙ ap (λ k. filter (has s) (range_with_len 0 d) ++ filter (has s) (range_with_len k (suc (15 - d)))) f
+    ∙ ap (λ b. filter (has s) (range_with_len 0 d) ++ cond b (d ∷ filter (has s) (range_with_len (d + 1) (15 - d))) (filter (has s) (range_with_len (d + 1) (15 - d)))) here
+    ∙ ap (λ xs. xs ++ d ∷ filter (has s) (range_with_len (d + 1) (15 - d))) (sym (centres_below-is s d))
+
+-- each centre that is in a set stands in its list
+pub Contains-centres_of : (s : DcSet) (d : ℕ) → has s d ≡ true → Contains (centres_of s) d
+Contains-centres_of s d here =
+    subst (λ xs. Contains xs d) (sym (centres_of-split s d (has-below s d here) here))
+        (length (centres_below s d),
+         omega (arith, length-append (centres_below s d) (d ∷ filter (has s) (range_with_len (d + 1) (15 - d)))),
+         get_or-append_seam (centres_below s d) d (filter (has s) (range_with_len (d + 1) (15 - d))) d)
+
+-- the centres of a set rise
+pub IsStrictlyIncreasing-centres_of : (s : DcSet) → IsStrictlyIncreasing (centres_of s)
+IsStrictlyIncreasing-centres_of s =
+    subst IsStrictlyIncreasing (sym (centres_of-is s ∙ centres_below-is s 16))
+        (IsStrictlyIncreasing-filter (has s) (range_with_len 0 16) (λ k h. rises k h))
+  where
+    rises : (k : ℕ) → k + 1 < length (range_with_len 0 16) → slice_index (range_with_len 0 16) k < slice_index (range_with_len 0 16) (k + 1)
+    rises k h =
+        let low : slice_index (range_with_len 0 16) k ≡ 0 + k = get_or-range_with_len 0 16 k 0 (omega (arith, length-range_with_len 0 16)) in
+        let high : slice_index (range_with_len 0 16) (k + 1) ≡ 0 + (k + 1) = get_or-range_with_len 0 16 (k + 1) 0 (omega (arith, length-range_with_len 0 16)) in
+        omega arith

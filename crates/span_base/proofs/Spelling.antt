@@ -1,5 +1,5 @@
 -- How far a text can go on as a number or as a name.
-use Rattle.std.proofs.Common.{◌≡◌, ◌≢◌, ℕ, ◌<◌, ◌≤◌, ◌+◌, ◌⊎◌, inl, inr, zero, suc, Bool, true, false, cond, ◌&&◌, ◌==◌, nat_lt, nat_le, List, [], ◌∷◌, ◌++◌, length, take, arith, subst, sym, refl, ap, ◌∙◌, slice_index, length-append, ◌^◌, ◌*◌, ◌-◌, add-one}
+use Rattle.std.proofs.Common.{◌/◌, ◌%◌, ◌≡◌, ◌≢◌, ℕ, ◌<◌, ◌≤◌, ◌+◌, ◌⊎◌, inl, inr, zero, suc, Bool, true, false, cond, ◌&&◌, ◌==◌, nat_lt, nat_le, List, [], ◌∷◌, ◌++◌, length, take, arith, subst, sym, refl, ap, ◌∙◌, slice_index, length-append, ◌^◌, ◌*◌, ◌-◌, add-one}
 use Rattle.std.proofs.lemmas.List.{append-nil, length-take-le}
 use Rattle.std.proofs.lemmas.List.Folds.{list_all-append, list_all_more}
 use Rattle.std.proofs.lemmas.Bool.{and_parts, and_from, and_right, lt-ltb, le-leb, leb-true, ne_eqb, eqb-true, le-ltb}
@@ -10,7 +10,9 @@ use Rattle.std.proofs.lemmas.Int.Digits.{digits_value_more}
 use Rattle.std.specs.Char.{digit_value}
 use Rattle.std.proofs.Math.Nat.{pow-suc, pow-le-pow_right, lt_of_lt_of_le}
 use Rattle.span_base.specs.Grammar.{CanGoOn, BreaksAt}
-use Rattle.span_base.specs.Number.{is_number, IsNumber}
+use Rattle.std.specs.Fmt.{decimal}
+use Rattle.std.proofs.lemmas.Fmt.{decimal_by_steps_wide, decimal_digit, decimal_is_IsNumeral_wide, length-decimal-le_wide}
+use Rattle.span_base.specs.Number.{is_number, IsNumber, number_of}
 use Rattle.span_base.specs.Name.{is_name_byte, IsName}
 use Rattle.span_base.proofs.Breaks.{breaks_inside, breaks_at_end}
 
@@ -163,3 +165,32 @@ DigitsSoFar-more text place number so_far inside ne digit low high =
           ∙ sym (digits_value_more 10 text place inside);
       small = rw power (omega arith);
     }
+
+digit_is : (d : ℕ) → d < 10 → is_ascii_digit (48 + d) ≡ true
+digit_is d low = and_from _ _ (le-leb 48 (48 + d) (omega arith)) (le-leb (48 + d) 57 (omega arith))
+
+-- digits, the first of which is 0 only where the number is
+record Spells (n : ℕ) (ds : List ℕ) : Type 0 where
+  pub some : 0 < length ds
+  pub digits : list_all is_ascii_digit ds ≡ true
+  pub lead : 0 < n → slice_index ds 0 ≢ 48
+
+decimal_spells : (n : ℕ) → n < 10 ^ 64 → Spells n (decimal n)
+decimal_spells = decimal_by_steps_wide Spells
+    (λ n low. record { some = omega arith; digits = and_from _ _ (digit_is n low) refl; lead = λ above e. absurd (omega arith) })
+    (λ n ds high before. record {
+      some = omega (arith, length-append ds ((48 + n % 10) ∷ []));
+      digits = list_all-append is_ascii_digit ds ((48 + n % 10) ∷ []) ∙ and_from _ _ before.digits (and_from _ _ (digit_is (n % 10) (omega arith)) refl);
+      lead = λ above e.
+        let positive : 0 < n / 10 = omega arith in
+        before.lead positive (sym (lead-append ds ((48 + n % 10) ∷ []) before.some) ∙ e)
+    })
+
+-- the decimal digits of a number below 10 ^ 38 are read back as the number
+pub decimal_reads : (n : ℕ) → n < 10 ^ 38 → IsNumber (decimal n) × (number_of (decimal n) ≡ n)
+decimal_reads zero low = (ap is_number (decimal_digit 0 (omega arith)), (decimal_is_IsNumeral_wide 0 (omega arith)).1)
+decimal_reads (suc n) low =
+    let spelled : Spells (suc n) (decimal (suc n)) = decimal_spells (suc n) (omega arith) in
+    (digits_are_number (decimal (suc n)) spelled.some (spelled.lead (omega arith)) spelled.digits
+        (length-decimal-le_wide 38 (suc n) (omega arith) low (omega arith)),
+     (decimal_is_IsNumeral_wide (suc n) (omega arith)).1)

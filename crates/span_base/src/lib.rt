@@ -23,7 +23,7 @@ pub use ids::{Call, DcId, KeyId, SetId};
 pub use listed::Listed;
 pub use members::MEMBERS;
 pub use name::{BadName, NAME_BYTES, read_name};
-pub use number::{NUMBER_DIGITS, NumberFault, read_number};
+pub use number::{NUMBER_DIGITS, NumberFault, push_number, read_number};
 pub use policy::{Hop, Near, Policy, Quorum};
 pub use quorum::{FAULTS, is_quorum};
 pub use sound::is_sound;

@@ -1,5 +1,8 @@
-ghost use Rattle.std.specs.Prelude.{◌≢◌, ◌<◌, length, slice_index};
-ghost use Rattle.span_base.specs.Number.{ReadsNumber};
+ghost use Rattle.std.specs.Prelude.{◌≡◌, ◌≢◌, ◌^◌, ◌<◌, ◌++◌, length, slice_index, decimal, OnOk, OnErr};
+ghost use Rattle.span_base.specs.Number.{IsNumber, number_of, ReadsNumber};
+
+use itoa::Buffer;
+use std::alloc::AllocError;
 
 /// The greatest number of digits of a number.
 pub const NUMBER_DIGITS: usize = 38;
@@ -43,4 +46,14 @@ fn read_digits(text: &[u8], limit: u128) -> Result<u128, NumberFault>
     } else {
         Ok(number)
     }
+}
+
+/// Puts the decimal digits of `number` at the end of `out`.
+pub fn push_number(out: &mut Vec<u8>, number: u128) -> Result<(), AllocError>
+    ensures ok { OnOk result (out.new.items ≡ out.old.items ++ decimal number) }
+    ensures err { OnErr result (out.new.items ≡ out.old.items) }
+    ensures reads_back { number < 10 ^ 38 → IsNumber (decimal number) × (number_of (decimal number) ≡ number) }
+{
+    let mut buffer = Buffer::new();
+    out.extend_from_slice(buffer.format(number).as_bytes())
 }
