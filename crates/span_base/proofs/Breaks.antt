@@ -1,6 +1,6 @@
 -- Where a text leaves a grammar.
 use Rattle.std.proofs.Common.{ap, ◌∙◌, append_assoc, ◌≤◌, ◌++◌, ◌≡◌, ℕ, ◌<◌, ◌+◌, List, length, take, drop, arith, subst, sym}
-use Rattle.std.proofs.lemmas.List.{take-append-drop, take_all}
+use Rattle.std.proofs.lemmas.List.{take-append-drop, take_all, take-take}
 use Rattle.std.proofs.Math.Nat.{le_antisymm}
 use Rattle.span_base.specs.Grammar.{CanGoOn, BreaksAt}
 

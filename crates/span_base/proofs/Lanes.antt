@@ -19,10 +19,11 @@ next_lane s m d lanes rest more low here so_far whole =
     let later = filter (has s) (range_with_len (d + 1) (15 - d)) in
     let lane : ℕ → ℕ × ℕ = λ k. (m, k) in
     let parts : lanes_of s m ≡ lanes_below s m d ++ (m, d) ∷ map lane later =
-        ap (map lane) (centres_of-split s d low here) ∙ map-append lane (centres_below s d) (d ∷ later) in
-    (map lane later ++ more,
-     append_cancel_left (lanes_below s m d) rest ((m, d) ∷ (map lane later ++ more))
-         (sym so_far ∙ whole ∙ ap (λ xs. xs ++ more) parts ∙ append_assoc (lanes_below s m d) ((m, d) ∷ map lane later) more))
+    ap (map lane) (centres_of-split s d low here) ∙ map-append lane (centres_below s d) (d ∷ later) in (
+      map lane later ++ more,
+      append_cancel_left (lanes_below s m d) rest ((m, d) ∷ (map lane later ++ more))
+          (sym so_far ∙ whole ∙ ap (λ xs. xs ++ more) parts ∙ append_assoc (lanes_below s m d) ((m, d) ∷ map lane later) more),
+    )
 
 -- hops that are left where there are none can't go on
 pub no_lane : (rest : List Hop) (lane : ℕ × ℕ) (tail : List (ℕ × ℕ)) → length rest ≡ 0 → map lane_of rest ≡ lane ∷ tail → ⊥
@@ -56,7 +57,7 @@ pub lane_taken : (s : DcSet) (m d : ℕ) (lanes : List (ℕ × ℕ)) (rest more 
 lane_taken s m d lanes rest more hop here so_far is member child =
     let lane : lane_of hop ≡ (m, d) = ap (λ x. (x, hop.child.0)) member ∙ ap (λ x. (m, x)) child in
     let front : lanes_below s m (d + 1) ≡ lanes_below s m d ++ (m, d) ∷ [] =
-        lanes_below-more s m d ∙ ap (λ b. lanes_below s m d ++ map (λ k. (m, k)) (cond b (d ∷ []) [])) here in
+    lanes_below-more s m d ∙ ap (λ b. lanes_below s m d ++ map (λ k. (m, k)) (cond b (d ∷ []) [])) here in
     so_far
     ∙ ap (λ r. lanes_below s m d ++ map lane_of r) is
     ∙ ap (λ l. lanes_below s m d ++ l ∷ map lane_of more) lane
@@ -67,7 +68,7 @@ lane_taken s m d lanes rest more hop here so_far is member child =
 pub lane_skipped : (s : DcSet) (m d : ℕ) (lanes rest : List (ℕ × ℕ)) → has s d ≡ false → lanes ≡ lanes_below s m d ++ rest → lanes ≡ lanes_below s m (d + 1) ++ rest
 lane_skipped s m d lanes rest away so_far =
     let front : lanes_below s m (d + 1) ≡ lanes_below s m d =
-        lanes_below-more s m d ∙ ap (λ b. lanes_below s m d ++ map (λ k. (m, k)) (cond b (d ∷ []) [])) away ∙ append-nil (lanes_below s m d) in
+    lanes_below-more s m d ∙ ap (λ b. lanes_below s m d ++ map (λ k. (m, k)) (cond b (d ∷ []) [])) away ∙ append-nil (lanes_below s m d) in
     so_far ∙ ap (λ xs. xs ++ rest) (sym front)
 
 -- below 0 there is none

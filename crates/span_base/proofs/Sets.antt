@@ -114,8 +114,8 @@ has-bit s d h = ap (λ b. b && (bit_at (bits_of s) d == 1)) (lt-ltb d 16 h)
 pub same_bits : (s t : DcSet) → bits_of s ≡ bits_of t → s ≡ t
 same_bits s t e =
     ap (λ n.
-        let r : DcSet = record { bits = n } in
-        r) e
+    let r : DcSet = record { bits = n } in
+    r) e
 
 -- two sets that have the same centres are the same
 pub same_set : (s t : DcSet) → bits_of s < 2 ^ 16 → bits_of t < 2 ^ 16 → ((d : ℕ) → d < 16 → has s d ≡ has t d) → s ≡ t
@@ -242,7 +242,7 @@ passes p (x ∷ xs) k d h = passes_more p x xs d (p x) refl (λ i low. passes p 
 pub All-centres_of : (s : DcSet) → All (λ d. IsTrue (has s d)) (centres_of s)
 All-centres_of s =
     subst (All (λ d. IsTrue (has s d))) (sym (centres_of-is s ∙ centres_below-is s 16))
-        (λ k d within. passes (has s) (range_with_len 0 16) k d within)
+    (λ k d within. passes (has s) (range_with_len 0 16) k d within)
 
 range-append : (a m n : ℕ) → range_with_len a (m + n) ≡ range_with_len a m ++ range_with_len (a + m) n
 range-append a zero n =
@@ -270,16 +270,17 @@ centres_of-split s d low here =
 -- each centre that is in a set stands in its list
 pub Contains-centres_of : (s : DcSet) (d : ℕ) → has s d ≡ true → Contains (centres_of s) d
 Contains-centres_of s d here =
-    subst (λ xs. Contains xs d) (sym (centres_of-split s d (has-below s d here) here))
-        (length (centres_below s d),
-         omega (arith, length-append (centres_below s d) (d ∷ filter (has s) (range_with_len (d + 1) (15 - d)))),
-         get_or-append_seam (centres_below s d) d (filter (has s) (range_with_len (d + 1) (15 - d))) d)
+    subst (λ xs. Contains xs d) (sym (centres_of-split s d (has-below s d here) here)) (
+      length (centres_below s d),
+      omega (arith, length-append (centres_below s d) (d ∷ filter (has s) (range_with_len (d + 1) (15 - d)))),
+      get_or-append_seam (centres_below s d) d (filter (has s) (range_with_len (d + 1) (15 - d))) d,
+    )
 
 -- the centres of a set rise
 pub IsStrictlyIncreasing-centres_of : (s : DcSet) → IsStrictlyIncreasing (centres_of s)
 IsStrictlyIncreasing-centres_of s =
     subst IsStrictlyIncreasing (sym (centres_of-is s ∙ centres_below-is s 16))
-        (IsStrictlyIncreasing-filter (has s) (range_with_len 0 16) (λ k h. rises k h))
+    (IsStrictlyIncreasing-filter (has s) (range_with_len 0 16) (λ k h. rises k h))
   where
     rises : (k : ℕ) → k + 1 < length (range_with_len 0 16) → slice_index (range_with_len 0 16) k < slice_index (range_with_len 0 16) (k + 1)
     rises k h =

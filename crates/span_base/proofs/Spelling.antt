@@ -182,15 +182,16 @@ decimal_spells = decimal_by_steps_wide Spells
       some = omega (arith, length-append ds ((48 + n % 10) ∷ []));
       digits = list_all-append is_ascii_digit ds ((48 + n % 10) ∷ []) ∙ and_from _ _ before.digits (and_from _ _ (digit_is (n % 10) (omega arith)) refl);
       lead = λ above e.
-        let positive : 0 < n / 10 = omega arith in
-        before.lead positive (sym (lead-append ds ((48 + n % 10) ∷ []) before.some) ∙ e)
+          let positive : 0 < n / 10 = omega arith in
+          before.lead positive (sym (lead-append ds ((48 + n % 10) ∷ []) before.some) ∙ e);
     })
 
 -- the decimal digits of a number below 10 ^ 38 are read back as the number
 pub decimal_reads : (n : ℕ) → n < 10 ^ 38 → IsNumber (decimal n) × (number_of (decimal n) ≡ n)
 decimal_reads zero low = (ap is_number (decimal_digit 0 (omega arith)), (decimal_is_IsNumeral_wide 0 (omega arith)).1)
 decimal_reads (suc n) low =
-    let spelled : Spells (suc n) (decimal (suc n)) = decimal_spells (suc n) (omega arith) in
-    (digits_are_number (decimal (suc n)) spelled.some (spelled.lead (omega arith)) spelled.digits
-        (length-decimal-le_wide 38 (suc n) (omega arith) low (omega arith)),
-     (decimal_is_IsNumeral_wide (suc n) (omega arith)).1)
+    let spelled : Spells (suc n) (decimal (suc n)) = decimal_spells (suc n) (omega arith) in (
+      digits_are_number (decimal (suc n)) spelled.some (spelled.lead (omega arith)) spelled.digits
+          (length-decimal-le_wide 38 (suc n) (omega arith) low (omega arith)),
+      (decimal_is_IsNumeral_wide (suc n) (omega arith)).1,
+    )

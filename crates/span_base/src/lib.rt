@@ -30,3 +30,6 @@ pub use sound::is_sound;
 pub use value::{VALUE_LIMIT, Value};
 pub use word::Word;
 pub use words::{Cause, What};
+
+#[cfg(test)]
+mod tests;

@@ -62,7 +62,9 @@ fn asked_by(members: &[Quorum]) -> DcSet
 fn all_meet(members: &[Quorum], many: u32) -> bool
     ensures { IsTrue result ↔ All (λ a. All (λ b. Meets many a b) members.now) members.now }
 {
-    members.iter().all(|member| meets_all(member, members, many))
+    members
+        .iter()
+        .all(|member| meets_all(member, members, many))
 }
 
 fn meets_all(member: &Quorum, members: &[Quorum], many: u32) -> bool

@@ -11,8 +11,9 @@ pub returns-in-None : goal.returns-in-None
 returns-in-None c =
     let f = λ (n : Near). lanes_of c.args.replicas n.member.0 in
     let xs = c.args.primary.now in
-    let i = c.loop-near.near-index in
-    (λ h. absurd (true≢false (sym h)),
-     λ whole. absurd (c.in-None.ensures (flat_map f (drop (suc i) xs))
-         (append_cancel_left (flat_map f (take i xs)) (map lane_of c.loop-near.rest.now) _
-             (sym c.loop-near.invariant ∙ whole ∙ flat_map-split f xs i _ c.loop-near-test.true))))
+    let i = c.loop-near.near-index in (
+      λ h. absurd (true≢false (sym h)),
+      λ whole. absurd (c.in-None.ensures (flat_map f (drop (suc i) xs))
+          (append_cancel_left (flat_map f (take i xs)) (map lane_of c.loop-near.rest.now) _
+          (sym c.loop-near.invariant ∙ whole ∙ flat_map-split f xs i _ c.loop-near-test.true))),
+    )
