@@ -1,5 +1,5 @@
 -- Centres that are all different.
-use Rattle.std.proofs.Common.{◌≡◌, ◌≢◌, ℕ, ◌<◌, ◌≤◌, ◌+◌, ◌⊎◌, inl, inr, true, false, List, length, arith, slice_index, sym, ◌∙◌, IsTrue, below_more, ap, subst, Bool, ◌==◌, refl}
+use Rattle.std.proofs.Common.{◌≡◌, ◌≢◌, ℕ, ◌<◌, ◌≤◌, ◌+◌, ◌⊎◌, inl, inr, true, false, List, length, arith, slice_index, sym, ◌∙◌, below_more, ap, subst, Bool, ◌==◌, refl}
 use Rattle.std.specs.List.{All, AllPairs}
 use Rattle.std.proofs.lemmas.List.{get_or_default}
 use Rattle.std.proofs.lemmas.Bool.{eqb-true, eqb-false}

@@ -1,13 +1,12 @@
 -- Lists of hops, read from the front.
-use Rattle.std.proofs.Common.{Bool, take, drop, slice_index_or, ◌≡◌, ◌≢◌, ℕ, ◌<◌, ◌≤◌, ◌+◌, ◌-◌, zero, suc, true, false, cond, List, [], ◌∷◌, ◌++◌, map, arith, sym, ◌∙◌, ap, refl, append_assoc, length, not, ◌==◌, eq-eqb}
+use Rattle.std.proofs.Common.{Bool, take, drop, slice_index_or, ◌≡◌, ℕ, ◌<◌, ◌≤◌, ◌+◌, ◌-◌, zero, suc, true, false, cond, List, [], ◌∷◌, ◌++◌, map, arith, sym, ◌∙◌, ap, refl, append_assoc, length, not, ◌==◌, eq-eqb}
 use Rattle.std.proofs.lemmas.List.{append_cancel_left, append-nil, map-append}
-use Rattle.std.proofs.lemmas.List.Elements.{filter-append}
 use Rattle.std.specs.List.{filter, range_with_len, flat_map}
-use Rattle.span_base.specs.DcSet.{DcSet, has, centres_below, centres_of}
+use Rattle.span_base.specs.DcSet.{DcSet, has, centres_below}
 use Rattle.std.proofs.lemmas.Bool.{true≢false, eqb-true}
 use Rattle.span_base.specs.declared.policy.Hop.{Hop}
 use Rattle.span_base.specs.Policy.{lane_of, lanes_of}
-use Rattle.span_base.proofs.Sets.{centres_of-split, centres_of-is, centres_below-is, centres_below-more, centres_below-zero}
+use Rattle.span_base.proofs.Sets.{centres_of-split, centres_of-is, centres_below-more, centres_below-zero}
 
 -- the lanes of the centres below n
 abbrev pub lanes_below : DcSet → ℕ → ℕ → List (ℕ × ℕ)

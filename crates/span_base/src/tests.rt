@@ -73,22 +73,33 @@ fn sets_hold_their_centres(rt: HostRuntime) {
 }
 
 #[test]
-fn bytes_and_words_are_kept(rt: HostRuntime) -> Result<(), Fail> {
-    let alloc = rt.alloc();
-    let word = Word::from_string(String::from_str(alloc, "a-b")?);
+fn words_are_kept(rt: HostRuntime) -> Result<(), Fail> {
+    let word = Word::from_string(String::from_str(rt.alloc(), "a-b")?);
     assert!(rt; word.clone()? == word);
     assert_eq!(rt; word.as_str(), "a-b");
     assert_eq!(rt; word.into_string().as_str(), "a-b");
+    Ok(())
+}
+
+#[test]
+fn bytes_and_values_are_kept(rt: HostRuntime) -> Result<(), Fail> {
+    let alloc = rt.alloc();
     let bytes = Bytes::from_vec(b"xyz".to_vec(alloc)?);
     assert!(rt; bytes.clone()? == bytes);
     assert_eq!(rt; bytes.len(), 3);
     let value = Value::from_vec(bytes.into_vec());
     assert!(rt; value.clone()? == value);
     assert!(rt; value != Value::empty(alloc));
-    let mut listed = Listed::from_vec(value.into_vec());
-    listed.push(1)?;
-    assert_eq!(rt; listed.as_slice(), b"xyz\x01".as_slice());
+    Ok(())
+}
+
+#[test]
+fn lists_are_kept(rt: HostRuntime) -> Result<(), Fail> {
+    let mut listed = Listed::new(rt.alloc());
+    listed.push(DcId(7))?;
     assert!(rt; listed.clone()? == listed);
+    assert_eq!(rt; listed.as_slice(), [DcId(7)].as_slice());
+    assert_eq!(rt; listed.into_vec().len(), 1);
     Ok(())
 }
 
@@ -154,70 +165,78 @@ fn told(rt: &impl Abort, policy: Policy, quorum: bool, sound: bool) {
     assert_eq!(rt; is_sound(&policy), sound);
 }
 
+const ALL: (u8, u16, u16) = (0, 0b111, 0b111);
+
 #[test]
 fn quorums_of_a_strong_policy_meet(rt: HostRuntime) -> Result<(), Fail> {
     let alloc = rt.alloc();
-    let all = (0, 0b111, 0b111);
     told(
         &rt,
-        strong(alloc, 1, 0b111, &[all, (1, 0b111, 0b111)])?,
+        strong(alloc, 1, 0b111, &[ALL, (1, 0b111, 0b111)])?,
         true,
         true,
     );
     told(&rt, strong(alloc, 0, 0b1, &[(5, 0b1, 0b1)])?, true, true);
-    // Two replicas of three are no quorum where one may fail.
+    told(&rt, strong(alloc, 3, 0x7f, &[(0, 0x7f, 0x7f)])?, true, true);
+    Ok(())
+}
+
+// Two replicas of three are no quorum where one may fail, and write sets have to meet too.
+#[test]
+fn quorums_that_do_not_meet_are_refused(rt: HostRuntime) -> Result<(), Fail> {
+    let alloc = rt.alloc();
     told(
         &rt,
-        strong(alloc, 1, 0b111, &[all, (1, 0b111, 0b11)])?,
+        strong(alloc, 1, 0b111, &[ALL, (1, 0b111, 0b11)])?,
         false,
         false,
     );
     told(
         &rt,
-        strong(alloc, 1, 0b111, &[all, (1, 0b11, 0b111)])?,
+        strong(alloc, 1, 0b111, &[ALL, (1, 0b11, 0b111)])?,
         false,
         false,
     );
-    // Write sets that have nothing in common.
     told(
         &rt,
         strong(alloc, 0, 0b11, &[(0, 0b11, 0b01), (1, 0b11, 0b10)])?,
         false,
         false,
     );
-    told(&rt, strong(alloc, 1, 0b1111, &[all])?, false, false);
-    told(&rt, strong(alloc, 1, 0b11, &[all])?, false, false);
-    told(&rt, strong(alloc, 1, 0b111, &[])?, false, false);
-    told(&rt, strong(alloc, 1, 0b111, &[all, all])?, false, false);
-    told(
-        &rt,
-        strong(alloc, 1, 0b111, &[(16, 0b111, 0b111)])?,
-        false,
-        false,
-    );
+    Ok(())
+}
+
+#[test]
+fn replicas_are_those_of_the_quorums(rt: HostRuntime) -> Result<(), Fail> {
+    let alloc = rt.alloc();
+    told(&rt, strong(alloc, 1, 0b1111, &[ALL])?, false, false);
+    told(&rt, strong(alloc, 1, 0b11, &[ALL])?, false, false);
     told(
         &rt,
         strong(alloc, 4, 0x1ff, &[(0, 0x1ff, 0x1ff)])?,
         false,
         false,
     );
-    told(&rt, strong(alloc, 3, 0x7f, &[(0, 0x7f, 0x7f)])?, true, true);
     Ok(())
 }
 
 #[test]
-fn a_direct_policy_has_primaries(rt: HostRuntime) -> Result<(), Fail> {
+fn members_of_a_strong_policy_are_different_centres(rt: HostRuntime) -> Result<(), Fail> {
     let alloc = rt.alloc();
-    let eight = [
-        (0, 1),
-        (1, 1),
-        (2, 2),
-        (3, 1),
-        (4, 1),
-        (5, 1),
-        (6, 1),
-        (15, 1),
-    ];
+    told(&rt, strong(alloc, 1, 0b111, &[])?, false, false);
+    told(&rt, strong(alloc, 1, 0b111, &[ALL, ALL])?, false, false);
+    told(
+        &rt,
+        strong(alloc, 1, 0b111, &[(16, 0b111, 0b111)])?,
+        false,
+        false,
+    );
+    Ok(())
+}
+
+#[test]
+fn a_policy_has_at_most_8_members(rt: HostRuntime) -> Result<(), Fail> {
+    let alloc = rt.alloc();
     let nine = [
         (0, 1),
         (1, 1),
@@ -229,12 +248,25 @@ fn a_direct_policy_has_primaries(rt: HostRuntime) -> Result<(), Fail> {
         (15, 1),
         (7, 1),
     ];
-    told(&rt, direct(alloc, 1, 0b110, &eight)?, false, true);
+    told(&rt, direct(alloc, 1, 0b110, &nine[..8])?, false, true);
     told(&rt, direct(alloc, 1, 0b110, &nine)?, false, false);
+    told(&rt, direct(alloc, 1, 0b110, &[])?, false, false);
+    Ok(())
+}
+
+#[test]
+fn a_direct_policy_has_replicas_and_primaries(rt: HostRuntime) -> Result<(), Fail> {
+    let alloc = rt.alloc();
     told(&rt, direct(alloc, 2, 0b110, &[(0, 1)])?, false, false);
     told(&rt, direct(alloc, 4, 0xffff, &[(0, 1)])?, false, false);
     told(&rt, direct(alloc, 3, 0xffff, &[(0, 1)])?, false, true);
     told(&rt, direct(alloc, 1, 0b110, &[(0, 3)])?, false, false);
+    Ok(())
+}
+
+#[test]
+fn members_of_a_direct_policy_are_different_centres(rt: HostRuntime) -> Result<(), Fail> {
+    let alloc = rt.alloc();
     told(
         &rt,
         direct(alloc, 1, 0b110, &[(0, 1), (0, 2)])?,
@@ -242,12 +274,13 @@ fn a_direct_policy_has_primaries(rt: HostRuntime) -> Result<(), Fail> {
         false,
     );
     told(&rt, direct(alloc, 1, 0b110, &[(16, 1)])?, false, false);
-    told(&rt, direct(alloc, 1, 0b110, &[])?, false, false);
     Ok(())
 }
 
+// The parents of the second have the write from one another, though one of them is direct for
+// the other member; a parent of the third is no replica.
 #[test]
-fn a_relay_policy_has_a_hop_for_each_replica(rt: HostRuntime) -> Result<(), Fail> {
+fn a_parent_is_direct_for_its_member(rt: HostRuntime) -> Result<(), Fail> {
     let alloc = rt.alloc();
     told(
         &rt,
@@ -255,20 +288,24 @@ fn a_relay_policy_has_a_hop_for_each_replica(rt: HostRuntime) -> Result<(), Fail
         false,
         true,
     );
-    // Parents that have the write from one another, though one is direct for another member.
     told(
         &rt,
         relay(alloc, &[(0, 1, 2), (0, 2, 1), (1, 1, 1), (1, 2, 2)])?,
         false,
         false,
     );
-    // A parent that is no replica.
     told(
         &rt,
         relay(alloc, &[(0, 1, 2), (0, 2, 2), (1, 1, 1), (1, 2, 3)])?,
         false,
         false,
     );
+    Ok(())
+}
+
+#[test]
+fn a_relay_policy_has_a_hop_for_each_replica(rt: HostRuntime) -> Result<(), Fail> {
+    let alloc = rt.alloc();
     told(
         &rt,
         relay(alloc, &[(0, 1, 1), (0, 2, 1), (1, 1, 1)])?,
@@ -287,8 +324,8 @@ fn a_relay_policy_has_a_hop_for_each_replica(rt: HostRuntime) -> Result<(), Fail
         false,
         false,
     );
-    let hops = [(0, 1, 1), (0, 2, 1), (1, 1, 1), (1, 2, 2), (1, 2, 2)];
-    told(&rt, relay(alloc, &hops)?, false, false);
+    let more = [(0, 1, 1), (0, 2, 1), (1, 1, 1), (1, 2, 2), (1, 2, 2)];
+    told(&rt, relay(alloc, &more)?, false, false);
     Ok(())
 }
 

@@ -1,6 +1,5 @@
-use Rattle.std.proofs.Common.{◌≡◌, ℕ, ◌<◌, ◌+◌, ◌++◌, List, ◌∷◌, map, sym, ◌∙◌, ap, subst, true}
-use Rattle.span_base.specs.DcSet.{has}
-use Rattle.span_base.specs.Policy.{lane_of, lanes_of}
+use Rattle.std.proofs.Common.{◌≡◌, ◌+◌, ◌++◌, map, sym, subst}
+use Rattle.span_base.specs.Policy.{lane_of}
 use Rattle.span_base.proofs.Lanes.{lanes_below, next_lane, no_lane, first_lane, same_not_different, not_different_same, lane_taken, lane_skipped, lanes_start, lanes_end}
 use Rattle.span_base.proofs.hops.after_lanes.Goals.{then-ne-via-then-ne, then-ne-via-else-ne+then-ne-2, then-has+in_ok-hop+else-ne+else-ne-2, else-has}
 use Rattle.span_base.proofs.hops.after_lanes.Goals as goal

@@ -1,4 +1,4 @@
-use Rattle.std.proofs.Common.{◌≡◌, ◌≤◌, map, ◌++◌}
+use Rattle.std.proofs.Common.{◌≡◌, map, ◌++◌}
 use Rattle.span_base.specs.Policy.{lane_of}
 use Rattle.span_base.proofs.Lanes.{lanes_below}
 use Rattle.span_base.proofs.hops.after_lanes.Given as goal

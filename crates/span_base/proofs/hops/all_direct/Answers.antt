@@ -1,6 +1,5 @@
-use Rattle.std.proofs.Common.{◌≡◌, ℕ, ◌<◌, slice_index_or, below_more, subst, sym, rules}
+use Rattle.std.proofs.Common.{slice_index_or, below_more, subst}
 use Rattle.std.proofs.lemmas.List.{get_or_default}
-use Rattle.span_base.specs.declared.policy.Hop.{Hop}
 use Rattle.span_base.specs.Policy.{IsDirect}
 use Rattle.span_base.proofs.hops.all_direct.Goals as goal
 
