@@ -1,5 +1,13 @@
+pub mod Calls
+pub mod Calm
+pub mod Counts
 pub mod DcSet
+pub mod Faults
+pub mod Files
 pub mod Grammar
+pub mod Memory
 pub mod Name
 pub mod Number
 pub mod Policy
+pub mod Taken
+pub mod Whole
