@@ -1,0 +1,5 @@
+pub mod Calls
+pub mod Lends
+pub mod Nodes
+pub mod Slots
+pub mod Stored
