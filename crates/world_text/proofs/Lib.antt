@@ -1,0 +1,12 @@
+pub mod Congruence
+pub mod Numbers
+pub mod Names
+pub mod Lists
+pub mod RowFields
+pub mod FieldTests
+pub mod Texts
+pub mod Distinct
+pub mod CentreRecords
+pub mod LinkRecords
+pub mod Layouts
+pub mod Worlds

@@ -1,0 +1,25 @@
+ghost use Rattle.std.specs.Prelude.{◌≡◌, ℕ, List, [], ◌∷◌, codes};
+ghost use Rattle.slo_rules.specs.World.{Lists};
+ghost use Rattle.slo_rules.specs.Examples.{two_centres};
+ghost use Rattle.world_text.specs.Narrow.{IsNarrowWorld};
+ghost use Rattle.world_text.specs.Records.{Record, records_of};
+
+/// A text is at most one narrow world.
+pub fn one_narrow_world()
+    ensures { (text : List ℕ) (v w : Lists) → IsNarrowWorld text v → IsNarrowWorld text w → v ≡ w }
+{}
+
+/// The records of a dear centre with one member and a cheap one 20 ms away.
+pub fn records_of_two_centres()
+    ensures { records_of two_centres
+        ≡ (codes "span" ∷ codes "1" ∷ [])
+        ∷ (codes "dc" ∷ codes "x" ∷ codes "north" ∷ codes "10" ∷ codes "5" ∷ codes "7" ∷ [])
+        ∷ (codes "dc" ∷ codes "y" ∷ codes "south" ∷ codes "1" ∷ codes "5" ∷ codes "7" ∷ [])
+        ∷ (codes "link" ∷ codes "x" ∷ codes "x" ∷ codes "0" ∷ codes "1" ∷ [])
+        ∷ (codes "link" ∷ codes "x" ∷ codes "y" ∷ codes "3" ∷ codes "20" ∷ [])
+        ∷ (codes "link" ∷ codes "y" ∷ codes "x" ∷ codes "3" ∷ codes "20" ∷ [])
+        ∷ (codes "link" ∷ codes "y" ∷ codes "y" ∷ codes "0" ∷ codes "1" ∷ [])
+        ∷ (codes "set" ∷ codes "s" ∷ codes "direct" ∷ codes "0" ∷ codes "30" ∷ codes "30" ∷ codes "100" ∷ codes "2" ∷ [])
+        ∷ (codes "use" ∷ codes "s" ∷ codes "x" ∷ codes "10" ∷ codes "4" ∷ [])
+        ∷ [] }
+{}

@@ -1,0 +1,5 @@
+pub mod Sums
+pub mod Rows
+pub mod Contents
+pub mod Program
+pub mod Faults
