@@ -1,0 +1,30 @@
+use Rattle.std.proofs.Common.{◌≡◌, ◌++◌, ◌<◌, ◌∙◌, refl, sym, ap, arith, map, length, take, get_or, [], ◌∷◌}
+use Rattle.std.proofs.lemmas.List.{take_all, append_assoc}
+use Rattle.std.proofs.lemmas.List.FromFn.{length-enumerate_from}
+use Rattle.slo_rules.specs.World.{members_of}
+use Rattle.placement_relay.specs.Direct.{numbered_members, reads_somewhere}
+use Rattle.placement_relay.proofs.Loops.{numbered_next}
+use Rattle.placement_relay.proofs.MetRows.{nobody}
+use Rattle.placement_relay.proofs.rows.push_reads_somewhere.Goals as goal
+
+pub loop-a-preserved : goal.loop-a-preserved
+loop-a-preserved c =
+    let listed : c.members-member-items.result.now ≡ members_of c.args.world.now c.args.set.0 = cc in
+    let w = c.args.world.now in
+    let members = members_of w c.args.set.0 in
+    let inside : c.loop-a.a < length members = omega (arith, c.loop-a-test.true, ap length listed) in
+    let rows = c.args.rows.now.items in
+    let before = map (reads_somewhere w c.args.set.0) (take c.loop-a.a (numbered_members w c.args.set.0)) in
+    let row = c.in_ok-reads_somewhere.field-0 in
+    c.in_ok-push.ensures.items
+    ∙ ap (λ rs. rs ++ row ∷ []) c.loop-a.invariant
+    ∙ append_assoc rows before (row ∷ [])
+    ∙ ap (λ r. rows ++ (before ++ r ∷ [])) (c.in_ok-reads_somewhere.ensures ∙ ap (λ ms. reads_somewhere w c.args.set.0 (c.loop-a.a, get_or ms c.loop-a.a nobody)) listed)
+    ∙ ap (λ rs. rows ++ rs) (sym (numbered_next (reads_somewhere w c.args.set.0) members c.loop-a.a nobody inside))
+
+pub returns : goal.returns
+returns c =
+    let listed : c.members-member-items.result.now ≡ members_of c.args.world.now c.args.set.0 = cc in
+    let same : length c.members-member-items.result.now ≡ length (members_of c.args.world.now c.args.set.0) = ap length listed in
+    c.loop-a.invariant ∙ ap (λ xs. c.args.rows.now.items ++ map (reads_somewhere c.args.world.now c.args.set.0) xs)
+    (take_all c.loop-a.a (numbered_members c.args.world.now c.args.set.0) (omega (arith, same, c.loop-a-test.false, length-enumerate_from 0 (members_of c.args.world.now c.args.set.0))))

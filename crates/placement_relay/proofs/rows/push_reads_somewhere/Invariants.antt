@@ -1,0 +1,6 @@
+use Rattle.std.proofs.Common.{◌≡◌, ◌++◌, map, take}
+use Rattle.placement_relay.specs.Direct.{numbered_members, reads_somewhere}
+use Rattle.placement_relay.proofs.rows.push_reads_somewhere.Given as goal
+
+abbrev pub invariant-loop-a : goal.invariant-loop-a
+invariant-loop-a l = l.rows.items ≡ l.initial.rows.items ++ map (reads_somewhere l.world l.set.0) (take l.a (numbered_members l.world l.set.0))

@@ -1,0 +1,4 @@
+pub mod Direct
+pub mod Placed
+pub mod Laws
+pub mod Examples
