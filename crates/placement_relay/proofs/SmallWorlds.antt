@@ -1,16 +1,14 @@
 -- Worlds of two centres and one set of one member are complete, whatever their names.
-use Rattle.std.proofs.Common.{◌≡◌, ℕ, ◌+◌, ◌*◌, ◌^◌, ◌<◌, ◌≤◌, List, [], ◌∷◌, length, refl, sym, subst, arith}
+use Rattle.std.proofs.Common.{◌≡◌, ℕ, ◌^◌, ◌≤◌, [], ◌∷◌, length, refl, sym, subst, arith}
 use Rattle.std.specs.List.{AllByRecursion}
 use Rattle.std.proofs.lemmas.List.Elements.{All-from_recursion}
 use Rattle.slo_rules.specs.World.{Lists, IsComplete, IsPriceWithin, IsFareWithin, IsSetWithin, IsRuleWithin, IsDemandWithin}
 use Rattle.slo_rules.specs.declared.world.Centre.{Centre}
-use Rattle.slo_rules.specs.declared.world.Fare.{Fare}
 use Rattle.slo_rules.specs.declared.world.AccessSet.{AccessSet}
 use Rattle.slo_rules.specs.declared.world.SetRule.{SetRule}
-use Rattle.slo_rules.specs.declared.world.Demand.{Demand}
 use Rattle.slo_rules.specs.declared.world.DcPrice.{DcPrice}
 use Rattle.slo_rules.specs.declared.world.Mode.TheVariants as mode
-use Rattle.slo_rules.specs.Examples.{two_centres, fare, member}
+use Rattle.slo_rules.specs.Examples.{fare, member}
 use Rattle.placement_relay.specs.Laws.{IsDirectSet}
 
 -- the rule of the small set, with these goals

@@ -1,4 +1,4 @@
-use Rattle.std.proofs.Common.{◌≡◌, ℕ, ◌+◌, ◌*◌, ◌<◌, ◌≤◌, ◌∙◌, Bool, true, false, length, sym, ap, arith}
+use Rattle.std.proofs.Common.{◌≡◌, ◌+◌, ◌*◌, ◌<◌, ◌≤◌, ◌∙◌, true, false, length, sym, ap, arith}
 use Rattle.std.proofs.lemmas.Nat.{mul-le}
 use Rattle.span_base.specs.declared.policy.Near.{Near}
 use Rattle.slo_rules.specs.World.{centre_count, rule_of, members_of}

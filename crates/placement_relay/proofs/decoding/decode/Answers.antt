@@ -1,12 +1,10 @@
-use Rattle.std.proofs.Common.{◌≡◌, ◌∙◌, ◌+◌, ◌*◌, ◌≤◌, ℕ, List, sym, ap, subst, arith, length}
+use Rattle.std.proofs.Common.{◌≡◌, ◌∙◌, ◌≤◌, sym, ap, subst, arith, length}
 use Rattle.span_base.specs.declared.policy.Policy.{Policy}
-use Rattle.span_base.specs.declared.policy.Policy.TheVariants.{Direct}
-use Rattle.slo_rules.specs.World.{centre_count, members_of, rule_of}
+use Rattle.slo_rules.specs.World.{rule_of}
 use Rattle.slo_rules.specs.Rules.{IsAllowed}
 use Rattle.slo_rules.specs.Cost.{policy_cost}
 use Rattle.zero_one.specs.Program.{value_of}
-use Rattle.placement_relay.specs.Direct.{direct_program, direct_costs}
-use Rattle.placement_relay.specs.Placed.{decoded}
+use Rattle.placement_relay.specs.Direct.{direct_costs}
 use Rattle.placement_relay.proofs.DirectSets.{decoding, decoded_parts, feasible_bits}
 use Rattle.placement_relay.proofs.Limits.{variables}
 use Rattle.placement_relay.proofs.decoding.decode.Goals as goal

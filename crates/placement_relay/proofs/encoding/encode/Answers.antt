@@ -1,4 +1,4 @@
-use Rattle.std.proofs.Common.{◌≡◌, ◌<◌, ◌^◌, ◌∙◌, sym, ap, subst}
+use Rattle.std.proofs.Common.{◌<◌, ◌^◌, ◌∙◌, sym, ap, subst}
 use Rattle.std.specs.List.{All}
 use Rattle.zero_one.specs.Contents.{Contents}
 use Rattle.placement_relay.specs.Direct.{direct_program, direct_costs}

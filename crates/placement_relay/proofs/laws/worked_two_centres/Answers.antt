@@ -1,6 +1,5 @@
 use Rattle.std.proofs.Common.{refl, arith}
 use Rattle.std.specs.Prelude.{codes}
-use Rattle.span_base.specs.DcSet.{centres_of, centres_below}
 use Rattle.slo_rules.specs.World.{set_of}
 use Rattle.slo_rules.specs.Examples.{two_centres, centre}
 use Rattle.placement_relay.specs.Direct.{direct_program}

@@ -1,10 +1,9 @@
-use Rattle.std.proofs.Common.{◌≡◌, ◌++◌, ◌∙◌, List, Bool, map, sym, ap, subst}
+use Rattle.std.proofs.Common.{◌++◌, ◌∙◌, List, Bool, map, sym, ap, subst}
 use Rattle.std.specs.Prelude.{◌==◌}
 use Rattle.std.specs.List.{flat_map}
 use Rattle.span_base.specs.DcSet.{has}
 use Rattle.span_base.specs.declared.policy.Near.{Near}
 use Rattle.zero_one.specs.Program.{IsFeasible, value_of}
-use Rattle.slo_rules.specs.Cost.{policy_cost}
 use Rattle.placement_relay.specs.Direct.{centres, direct_program, direct_costs}
 use Rattle.placement_relay.specs.Placed.{placed}
 use Rattle.placement_relay.proofs.DirectSets.{placing, only_direct}

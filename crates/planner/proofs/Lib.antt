@@ -1,0 +1,9 @@
+pub mod Plain
+pub mod WellFormed
+pub mod Closing
+pub mod Ends
+pub mod Texts
+pub mod Policies
+pub mod Parts
+pub mod PartLaws
+pub mod Fronts

@@ -1,0 +1,10 @@
+use Rattle.std.proofs.Common.{◌≡◌, ◌++◌, string_bytes}
+use Rattle.std.specs.Prelude.{codes}
+use Rattle.std.specs.List.{flat_map}
+use Rattle.slo_rules.specs.Centres.{centres_from}
+use Rattle.planner.specs.PolicyText.{name_of, names_text}
+use Rattle.planner.proofs.text.write_names.Given as goal
+
+abbrev pub invariant-loop-d : goal.invariant-loop-d
+invariant-loop-d l =
+    string_bytes l.text ++ flat_map (λ dc. codes " " ++ name_of l.world dc) (centres_from l.set l.d) ≡ string_bytes l.fn.text ++ names_text l.world l.set

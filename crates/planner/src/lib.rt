@@ -1,0 +1,9 @@
+//! Plans: for each set of a world the policy of least cost, with a tree that shows it least.
+#![tactic(auto)]
+
+mod part;
+mod plan;
+mod search;
+mod text;
+
+pub use plan::{MOST_VARIABLES, PlanEnd, PlanFault, plan_all};

@@ -1,0 +1,3 @@
+pub mod Words
+pub mod Planned
+pub mod Spans

@@ -1,0 +1,31 @@
+ghost use Rattle.std.specs.Prelude.{◌≡◌, ◌↔◌, ◌≤◌, false};
+ghost use Rattle.span_base.specs.Counts.{Rose};
+ghost use Rattle.span_top.specs.Words.{is_command};
+ghost use Rattle.span_top.specs.Spans.{SpanEnds};
+
+use crate::command::{is_command, planned_world};
+use crate::plan_command::plan;
+use crate::status::Status;
+use span_base::{Shelf, Sink, Word};
+use std::alloc::Global;
+
+/// Does what the words ask, with files from the shelf and the output to the sink.
+#[tactic(auto, using(crate::proofs::Endings::not_usage))]
+pub fn span<S: Shelf, K: Sink>(alloc: Global, words: &[Word], shelf: &mut S, out: &mut K) -> Status
+    ensures ends { SpanEnds words.now (S.files shelf.old) (K.taken out.old) (K.taken out.new) result }
+    ensures usage { (result ≡ Status.Usage) ↔ (is_command words.now ≡ false) }
+    ensures read_fault { result ≡ Status.ReadFault → Rose (S.faults shelf.old) (S.faults shelf.new) }
+    ensures absent { result ≡ Status.Absent 0 → Rose (S.absences shelf.old) (S.absences shelf.new) }
+    ensures write_fault { result ≡ Status.WriteFault → Rose (K.faults out.old) (K.faults out.new) }
+    ensures faults_stay { S.faults shelf.old ≤ S.faults shelf.new }
+    ensures absences_stay { S.absences shelf.old ≤ S.absences shelf.new }
+    ensures write_faults_stay { K.faults out.old ≤ K.faults out.new }
+{
+    if !is_command(words) {
+        return Status::Usage;
+    }
+    match planned_world(words) {
+        Some(name) => plan(alloc, name.as_str(), shelf, out),
+        None => Status::NotBuilt { line: 0 },
+    }
+}

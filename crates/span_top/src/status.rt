@@ -1,0 +1,75 @@
+use span_base::{SetId, What};
+use std::fmt;
+
+/// How a run of the program ends.
+#[derive(Clone, Copy, Debug, PartialEq, Eq)]
+pub enum Status {
+    /// All was done.
+    Done,
+    /// There was no memory.
+    NoMemory,
+    /// The words are of no command.
+    Usage,
+    /// There is no file of this name; files are counted from 0 in the order of the words.
+    Absent {
+        file: u8,
+    },
+    /// The plan is written, and no policy of this set is allowed.
+    NoPolicy {
+        set: SetId,
+    },
+    /// A file can't be read.
+    ReadFault,
+    /// The output can't be written.
+    WriteFault,
+    /// What was counted in a file passes its limit.
+    TooLarge {
+        file: u8,
+        line: u64,
+        what: What,
+        number: u128,
+    },
+    /// The words or the file are of a form that isn't served yet.
+    NotBuilt {
+        line: u64,
+    },
+}
+
+impl Status {
+    /// The exit status of the program.
+    pub fn code(&self) -> u8 {
+        match self {
+            Status::Done => 0,
+            Status::NoMemory => 1,
+            Status::Usage => 2,
+            Status::Absent { .. } => 3,
+            Status::NoPolicy { .. } => 5,
+            Status::ReadFault => 9,
+            Status::WriteFault => 10,
+            Status::TooLarge { .. } => 12,
+            Status::NotBuilt { .. } => 14,
+        }
+    }
+}
+
+/// The status's name and its fields in order, each after one space.
+impl fmt::Display for Status {
+    fn fmt<W: fmt::Write>(&self, f: &mut fmt::Formatter<W>) -> fmt::Result {
+        match self {
+            Status::Done => f.write_str("Done"),
+            Status::NoMemory => f.write_str("NoMemory"),
+            Status::Usage => f.write_str("Usage"),
+            Status::Absent { file } => write!(f, "Absent {file}"),
+            Status::NoPolicy { set } => write!(f, "NoPolicy {}", set.0),
+            Status::ReadFault => f.write_str("ReadFault"),
+            Status::WriteFault => f.write_str("WriteFault"),
+            Status::TooLarge {
+                file,
+                line,
+                what,
+                number,
+            } => write!(f, "TooLarge {file} {line} {} {number}", what.word()),
+            Status::NotBuilt { line } => write!(f, "NotBuilt {line}"),
+        }
+    }
+}
