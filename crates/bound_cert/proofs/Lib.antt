@@ -6,3 +6,11 @@ pub mod Risings
 pub mod IntSums
 pub mod Scratch
 pub mod Texts
+pub mod Numbers
+pub mod Longest
+pub mod Fronts
+pub mod Places
+pub mod Faults
+pub mod Lines
+pub mod OneReading
+pub mod NoFault

@@ -4,3 +4,4 @@ pub mod Trees
 pub mod Text
 pub mod Laws
 pub mod Sizes
+pub mod Reading

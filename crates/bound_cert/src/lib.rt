@@ -7,11 +7,13 @@ mod closing;
 mod laws;
 mod leaves;
 mod print;
+mod read;
 #[cfg(test)]
 mod tests;
 
 pub use bounds::{leaf_value, leaf_value_in};
 pub use closing::{closes, leaf_fits};
-pub use laws::{leaves_bound, proofs_bound};
+pub use laws::{leaves_bound, lines_have_no_fault, lines_have_one_reading, proofs_bound};
 pub use leaves::{Goal, Leaf, Line, MAX_MULTIPLIER, MAX_SCALE, Pair};
 pub use print::{print_line, push_line};
+pub use read::{LineFault, read_line};

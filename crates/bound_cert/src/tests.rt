@@ -1,4 +1,6 @@
-use crate::{Goal, Leaf, Line, Pair, closes, leaf_fits, leaf_value, print_line};
+use crate::{
+    Goal, Leaf, Line, LineFault, Pair, closes, leaf_fits, leaf_value, print_line, read_line,
+};
 use span_base::{Bytes, Listed};
 use std::alloc::{AllocError, Global};
 use std::test::Fail;
@@ -116,5 +118,69 @@ fn lines_are_printed(rt: HostRuntime) -> Result<(), Fail> {
     );
     let branch = print_line(alloc, &Line::Branch { var: 1 })?;
     assert_eq!(rt; branch.as_slice() == b"b 1".as_slice(), true);
+    Ok(())
+}
+
+/// The place of the fault of a text that is no line.
+fn fault_of(alloc: Global, text: &[u8]) -> Option<usize> {
+    match read_line(alloc, text) {
+        Err(LineFault::Bad { at }) => Some(at),
+        _ => None,
+    }
+}
+
+#[test]
+fn lines_are_read(rt: HostRuntime) -> Result<(), Fail> {
+    let alloc = rt.alloc();
+    let same = match read_line(alloc, b"l 1 0:262 1:212 2:152")? {
+        Line::Close(leaf) => leaf.s == 1 && leaf.pairs == leaf_of_three(alloc, 262)?.pairs,
+        Line::Branch { .. } => false,
+    };
+    assert_eq!(rt; same, true);
+    let branch = read_line(alloc, b"b 1")?;
+    assert_eq!(rt; matches!(branch, Line::Branch { var: 1 }), true);
+    Ok(())
+}
+
+#[test]
+fn the_first_fault_is_told(rt: HostRuntime) -> Result<(), Fail> {
+    let alloc = rt.alloc();
+    let faults: [(&[u8], Option<usize>); 23] = [
+        (b"".as_slice(), Some(0)),
+        (b"x".as_slice(), Some(0)),
+        (b"b".as_slice(), Some(1)),
+        (b"b ".as_slice(), Some(2)),
+        (b"b  1".as_slice(), Some(2)),
+        (b"b 01".as_slice(), Some(3)),
+        (b"b 65535".as_slice(), None),
+        (b"b 65536".as_slice(), Some(2)),
+        (b"b 65536x".as_slice(), Some(2)),
+        (b"b 1 ".as_slice(), Some(3)),
+        (b"l".as_slice(), Some(1)),
+        (b"l 4294967295".as_slice(), None),
+        (b"l 4294967296".as_slice(), Some(2)),
+        (b"l 1 65536".as_slice(), Some(4)),
+        (b"l 1 5".as_slice(), Some(5)),
+        (b"l 1 5:".as_slice(), Some(6)),
+        (b"l 1 5:1 ".as_slice(), Some(8)),
+        (b"l 1 5:007".as_slice(), Some(7)),
+        (b"l 1  5:1".as_slice(), Some(4)),
+        (
+            b"l 1 5:12345678901234567890123456789012345678".as_slice(),
+            None,
+        ),
+        (
+            b"l 1 5:123456789012345678901234567890123456789".as_slice(),
+            Some(44),
+        ),
+        (
+            b"b 123456789012345678901234567890123456789".as_slice(),
+            Some(2),
+        ),
+        (b"l 1 65535:1".as_slice(), None),
+    ];
+    for (text, place) in faults {
+        assert_eq!(rt; fault_of(alloc, text), place);
+    }
     Ok(())
 }
