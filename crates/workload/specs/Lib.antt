@@ -1,0 +1,6 @@
+pub mod Limits
+pub mod Load
+pub mod Kept
+pub mod Faults
+pub mod World
+pub mod Gaps

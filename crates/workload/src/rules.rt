@@ -1,0 +1,47 @@
+use span_base::{DcId, Listed, Word};
+
+/// How the replicas of a set are written and read.
+#[derive(Clone, Copy, Debug, PartialEq, Eq)]
+pub enum Mode {
+    /// Eventual: each member writes to every replica itself.
+    Direct,
+    /// Eventual: a write may reach a replica through another one.
+    Relay,
+    /// One register: reads and writes go to quorums.
+    Strong,
+}
+
+/// What a set asks of its policy.
+#[derive(Clone, Copy, Debug, PartialEq, Eq)]
+pub struct SetRule {
+    pub mode: Mode,
+    /// Failures to stand, at most 3.
+    pub f: u8,
+    /// Goal of a read, in ms, at most 10^6.
+    pub read_slo: u32,
+    /// Goal of a write, in ms, at most 10^6.
+    pub write_slo: u32,
+    /// KiB stored, at most 10^12.
+    pub stored: u64,
+    /// KiB of one object, at most 10^5.
+    pub object: u64,
+    /// Providers that the replicas must lie with, 1 to 16.
+    pub providers: u8,
+}
+
+/// What one member of a set asks for in an epoch, at most 10^9 of each.
+#[derive(Clone, Copy, Debug, PartialEq, Eq)]
+pub struct Demand {
+    pub dc: DcId,
+    pub gets: u64,
+    pub puts: u64,
+}
+
+/// A set of objects that the same centres access.
+#[derive(Debug, Drop)]
+pub struct AccessSet {
+    pub name: Word,
+    pub rule: SetRule,
+    /// In file order, 1 to 8, each in a centre of its own.
+    pub members: Listed<Demand>,
+}
