@@ -1,0 +1,11 @@
+pub mod Loops
+pub mod HopLoop
+pub mod Lanes
+pub mod SoundTest
+pub mod Readings
+pub mod Parts
+pub mod PolicyLaws
+pub mod Writing
+pub mod FieldLaws
+pub mod MessageLaws
+pub mod SizeLaws

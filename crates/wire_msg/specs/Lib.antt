@@ -1,0 +1,11 @@
+pub mod Nodes
+pub mod Fields
+pub mod Lawful
+pub mod Sizes
+pub mod Outputs
+pub mod Frames
+pub mod Sound
+pub mod Faults
+pub mod Gives
+pub mod Laws
+pub mod Adds
