@@ -1,0 +1,61 @@
+ghost use Rattle.std.specs.Prelude.{◌≡◌, OnOk, OnErr};
+ghost use Rattle.replica_core.specs.Keeping.{opening, greater, is_over, merge};
+
+use span_base::Value;
+use std::alloc::{AllocError, Global};
+use ticket_rules::Stamp;
+
+/// What a replica keeps of a key.
+#[derive(Debug, Drop)]
+pub struct Kept {
+    /// The stamp of the value, zero where none was stored yet.
+    pub version: Stamp,
+    pub value: Value,
+    /// The greatest stamp whose value is known to be stored at a whole write quorum.
+    pub mark: Stamp,
+    /// The ticket that was granted last.
+    pub fence: Stamp,
+    /// The last epoch that is over, 0 where none is.
+    pub frozen: u32,
+}
+
+impl Kept {
+    /// What is kept of a key at first. It takes no memory.
+    pub(crate) fn opening(alloc: Global) -> Kept
+        ensures { result ≡ opening }
+    {
+        Kept {
+            version: Stamp::zero(),
+            value: Value::empty(alloc),
+            mark: Stamp::zero(),
+            fence: Stamp::zero(),
+            frozen: 0,
+        }
+    }
+
+    /// Whether this epoch is over.
+    pub(crate) fn is_over(&self, epoch: u32) -> bool
+        ensures { result ≡ is_over self.now epoch }
+    {
+        epoch <= self.frozen
+    }
+
+    /// Takes a version with its value where it is above the one that is kept.
+    pub(crate) fn merge(&mut self, stamp: &Stamp, value: &Value) -> Result<(), AllocError>
+        ensures ok { OnOk result (self.new ≡ merge self.old stamp.now value.now) }
+        ensures err { OnErr result (self.new ≡ self.old) }
+    {
+        if *stamp > self.version {
+            self.value = value.clone()?;
+            self.version = *stamp;
+        }
+        Ok(())
+    }
+}
+
+/// The greater of two stamps.
+pub(crate) fn greater(a: &Stamp, b: &Stamp) -> Stamp
+    ensures { result ≡ greater a.now b.now }
+{
+    if b > a { *b } else { *a }
+}

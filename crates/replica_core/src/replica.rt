@@ -1,0 +1,97 @@
+ghost use Rattle.std.specs.Prelude.{◌≡◌, ◌<◌, ◌≤◌, length, IfOk, OnOk, OnErr, IfSome};
+ghost use Rattle.wire_msg.specs.Lawful.{IsLawful, AreLawful};
+ghost use Rattle.wire_msg.specs.Outputs.{nothing_out};
+ghost use Rattle.wire_msg.specs.Sizes.{bulk_of};
+ghost use Rattle.replica_core.specs.Keys.{key_of};
+ghost use Rattle.replica_core.specs.Rule.{opening_state, step};
+
+use crate::kept::Kept;
+use crate::keys::key_of;
+use std::alloc::{AllocError, Global};
+use std::marker::Model;
+use wire_msg::{Bulk, Message, Outputs};
+
+/// A replica, which keeps a version of each key in memory.
+#[derive(Debug, Drop)]
+pub struct Replica {
+    /// The centre that it stands in, below 16.
+    number: u8,
+    /// What it keeps of key 0, key 1 and so on, of at most 1,000 keys.
+    kept: Vec<Kept>,
+}
+
+impl Model for Replica {
+    ghost use Rattle.replica_core.specs.Rule.{State, IsLawfulState};
+
+    ghost Value = { State };
+
+    ghost view = { λ r. record { number = r.number; kept = r.kept.items } };
+
+    ghost invariant = { λ r. IsLawfulState (record { number = r.number; kept = r.kept.items }) };
+}
+
+impl Replica {
+    /// The replica of this number, that keeps nothing yet of keys 0 to `keys - 1`.
+    pub fn make(alloc: Global, number: u8, keys: u16) -> Result<Replica, AllocError>
+        requires number { number < 16 }
+        requires keys { keys ≤ 1000 }
+        ensures { IfOk result (λ replica. replica ≡ opening_state number keys) }
+    {
+        let mut kept = Vec::with_capacity(alloc, usize::from(keys))?;
+        for _ in 0..keys {
+            kept.push(Kept::opening(alloc))?;
+        }
+        Ok(Replica { number, kept })
+    }
+
+    /// The centre that it stands in.
+    pub fn number(&self) -> u8
+        ensures number { result ≡ self.now.number }
+        ensures limit { result < 16 }
+    {
+        self.number
+    }
+
+    /// How many keys it keeps.
+    pub fn keys(&self) -> u16
+        ensures keys { result ≡ length self.now.kept }
+        ensures limit { result ≤ 1000 }
+    {
+        self.kept.len() as u16
+    }
+
+    /// Takes a message: changes what is kept, and puts out the answer.
+    pub fn take(
+        &mut self,
+        alloc: Global,
+        message: &Message,
+        out: &mut Outputs,
+    ) -> Result<(), AllocError>
+        requires lawful { IsLawful message.now }
+        requires empty { out.old ≡ nothing_out }
+        requires key { IfSome (key_of message.now) (λ key. key.0 < length self.old.kept) }
+        ensures ok { OnOk result ((self.new ≡ (step self.old message.now).state) × (out.new ≡ (step self.old message.now).out)) }
+        ensures err { OnErr result ((self.new ≡ self.old) × (out.new ≡ out.old)) }
+        ensures lawful { OnOk result (AreLawful out.new.posts) }
+        ensures number { self.new.number ≡ self.old.number }
+        ensures keys { length self.new.kept ≡ length self.old.kept }
+    {
+        if let Some(key) = key_of(message) {
+            let number = self.number;
+            let kept = &mut self.kept[usize::from(key.0)];
+            kept.take(alloc, number, message, out)?;
+        }
+        Ok(())
+    }
+
+    /// How much `take` puts out for this message. It takes no memory.
+    pub fn bulk(&self, message: &Message) -> Bulk
+        requires { IfSome (key_of message.now) (λ key. key.0 < length self.now.kept) }
+        ensures { result ≡ bulk_of (step self.now message.now).out.posts }
+    {
+        match key_of(message) {
+            Some(key) => self.kept[usize::from(key.0)].bulk(message),
+            None => Bulk { posts: 0, bytes: 0 },
+        }
+    }
+}
