@@ -1,0 +1,5 @@
+pub mod Rows
+pub mod Sent
+pub mod Ranges
+pub mod Endings
+pub mod Taken

@@ -1,0 +1,10 @@
+pub mod Member
+pub mod Answers
+pub mod Verdict
+pub mod Effects
+pub mod Parts
+pub mod Steps
+pub mod Endings
+pub mod LawfulCall
+pub mod Lent
+pub mod Bulks
