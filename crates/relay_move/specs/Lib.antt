@@ -1,0 +1,4 @@
+pub mod Policies
+pub mod State
+pub mod Rule
+pub mod Stages

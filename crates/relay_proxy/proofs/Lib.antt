@@ -1,0 +1,4 @@
+pub mod SetOf
+pub mod PushLoop
+pub mod Primaries
+pub mod Laws

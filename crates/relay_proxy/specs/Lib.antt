@@ -1,0 +1,4 @@
+pub mod Routes
+pub mod State
+pub mod Replies
+pub mod Rule

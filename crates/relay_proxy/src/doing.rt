@@ -1,0 +1,11 @@
+use ticket_rules::Stamp;
+
+/// What an eventual call does.
+#[derive(Clone, Copy, Debug, PartialEq, Eq)]
+pub enum Doing {
+    Getting,
+    /// Stores its value with this stamp.
+    Putting { stamp: Stamp },
+    /// It takes nothing more.
+    Ended,
+}
