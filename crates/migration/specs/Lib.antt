@@ -1,0 +1,3 @@
+pub mod PolicyParts
+pub mod Move
+pub mod Sound
