@@ -158,3 +158,27 @@ fn leaves_without_costs_refute(rt: HostRuntime) -> Result<(), Fail> {
     );
     Ok(())
 }
+
+#[test]
+fn leaves_out_of_range_are_refused(rt: HostRuntime) -> Result<(), Fail> {
+    let alloc = rt.alloc();
+    let program = two_centres(alloc)?.expect(&rt, "the limits are kept");
+    for out in [
+        leaf(alloc, 1_000_001, &[(0, 1)])?,
+        leaf(alloc, 1, &[(0, 0)])?,
+        leaf(alloc, 1, &[(1, 5), (0, 5)])?,
+    ] {
+        let said = verdict(alloc, &program, &[out], Goal::Cost(262))?;
+        assert_eq!(rt; said, Err(CertFault::Range));
+    }
+    Ok(())
+}
+
+#[test]
+fn where_all_is_free_the_cost_is_nought(rt: HostRuntime) -> Result<(), Fail> {
+    let alloc = rt.alloc();
+    let program = make(vec![in alloc; 0, 0]?, Vec::new(alloc)).expect(&rt, "the limits are kept");
+    let said = verdict(alloc, &program, &[leaf(alloc, 1, &[])?], Goal::Cost(0))?;
+    assert_eq!(rt; said, Ok(()));
+    Ok(())
+}
