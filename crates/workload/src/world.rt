@@ -1,9 +1,9 @@
-ghost use Rattle.std.specs.Prelude.{◌≡◌, ◌<◌, ◌≤◌, IfOk, IfErr, length, All};
+ghost use Rattle.std.specs.Prelude.{◌≡◌, ◌<◌, ◌≤◌, IfOk, IfErr, OnOk, length, All};
 ghost use Rattle.price_tables.specs.Limits.{IsPriceWithin, IsFareWithin};
-ghost use Rattle.price_tables.specs.Tables.{count_of};
+ghost use Rattle.price_tables.specs.Tables.{count_of, AreAllLinked};
 ghost use Rattle.workload.specs.Limits.{IsRuleWithin};
 ghost use Rattle.workload.specs.World.{world_of, fare_or_none, IsComplete, IsDemandWithin, centre_count, centre_of, price_of, fare_of, set_of, rule_of, members_of};
-ghost use Rattle.workload.specs.Gaps.{AreInCentres, IsFirstGap};
+ghost use Rattle.workload.specs.Gaps.{AreInCentres, HaveMembersBefore, IsFirstGap};
 
 use crate::fault::Gap;
 use crate::load::Workload;
@@ -40,6 +40,8 @@ impl World {
     pub fn make(tables: Tables, load: Workload) -> Result<World, Gap>
         requires { AreInCentres (count_of tables) load }
         ensures world { IfOk result (λ world. world ≡ world_of tables load) }
+        ensures linked { OnOk result (AreAllLinked tables) }
+        ensures used { OnOk result (HaveMembersBefore load (length load)) }
         ensures gap { IfErr result (IsFirstGap tables load) }
     {
         if let Some(Pair { from, to }) = tables.first_missing() {
