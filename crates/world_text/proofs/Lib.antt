@@ -10,3 +10,13 @@ pub mod CentreRecords
 pub mod LinkRecords
 pub mod Layouts
 pub mod Worlds
+pub mod ProviderFields
+pub mod Adding
+pub mod Gaps
+pub mod Readings
+pub mod DcSteps
+pub mod LinkSteps
+pub mod SetSteps
+pub mod UseSteps
+pub mod AnySteps
+pub mod Completing

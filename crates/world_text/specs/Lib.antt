@@ -3,3 +3,10 @@ pub mod Narrow
 pub mod Reads
 pub mod Parts
 pub mod Layout
+pub mod Steps
+pub mod Faults
+pub mod Spelled
+pub mod Added
+pub mod Judged
+pub mod ReadWorld
+pub mod Worked

@@ -1,8 +1,12 @@
-ghost use Rattle.std.specs.Prelude.{◌≡◌, ℕ, List, [], ◌∷◌, codes};
+ghost use Rattle.std.specs.Prelude.{◌≡◌, ℕ, List, [], ◌∷◌, ◌++◌, codes, Ok, Err};
+ghost use Rattle.span_base.specs.declared.words.Cause.TheVariants as cause;
 ghost use Rattle.slo_rules.specs.World.{Lists};
 ghost use Rattle.slo_rules.specs.Examples.{two_centres};
 ghost use Rattle.world_text.specs.Narrow.{IsNarrowWorld};
 ghost use Rattle.world_text.specs.Records.{Record, records_of};
+ghost use Rattle.world_text.specs.declared.fault.Fault.TheVariants.{Bad};
+ghost use Rattle.world_text.specs.ReadWorld.{read_records};
+ghost use Rattle.world_text.specs.Worked.{worked_before, last_link, worked_after, worked_world};
 
 /// A text is at most one narrow world.
 pub fn one_narrow_world()
@@ -22,4 +26,12 @@ pub fn records_of_two_centres()
         ∷ (codes "set" ∷ codes "s" ∷ codes "direct" ∷ codes "0" ∷ codes "30" ∷ codes "30" ∷ codes "100" ∷ codes "2" ∷ [])
         ∷ (codes "use" ∷ codes "s" ∷ codes "x" ∷ codes "10" ∷ codes "4" ∷ [])
         ∷ [] }
+{}
+
+/// What the records of two centres say; without the last link they are refused at the end, and
+/// without any record at the first line.
+pub fn worked_world_is_read()
+    ensures world { read_records (worked_before ++ last_link ++ worked_after) ≡ Ok worked_world }
+    ensures link { read_records (worked_before ++ worked_after) ≡ Err (9, Bad cause.Link) }
+    ensures version { read_records [] ≡ Err (1, Bad cause.Version) }
 {}

@@ -1,6 +1,6 @@
-//! The greatest values of a narrow world.
+//! The greatest values of a world.
 
-/// Centres.
+/// Centres of a narrow world.
 pub(crate) const CENTRES: usize = 3;
 /// A price, in pico-dollars.
 pub(crate) const PRICE: u64 = 1_000_000_000;
@@ -14,3 +14,5 @@ pub(crate) const STORED: u64 = 1_000_000_000_000;
 pub(crate) const OBJECT: u64 = 100_000;
 /// Gets or puts.
 pub(crate) const COUNT: u64 = 1_000_000_000;
+/// Providers that a set asks for.
+pub(crate) const PROVIDERS: u64 = 16;
