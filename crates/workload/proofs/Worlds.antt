@@ -1,5 +1,5 @@
 -- Tables and sets without a gap make a complete world.
-use Rattle.std.proofs.Common.{get_or, zero, suc, ◌≡◌, ◌≢◌, ℕ, ◌+◌, ◌*◌, ◌<◌, ◌≤◌, List, [], ◌∷◌, ◌++◌, map, length, Option, Some, None, refl, sym, ap, ◌∙◌, subst, arith, All, slice_index_or}
+use Rattle.std.proofs.Common.{get_or, cond, ◌&&◌, nat_lt, lt-ltb, zero, suc, ◌≡◌, ◌≢◌, ℕ, ◌+◌, ◌*◌, ◌<◌, ◌≤◌, List, [], ◌∷◌, ◌++◌, map, length, Option, Some, None, refl, sym, ap, ◌∙◌, subst, arith, All, slice_index_or}
 use Rattle.std.specs.List.{flat_map, range_with_len}
 use Rattle.std.proofs.lemmas.List.{length-append, get_or-append-add, get_or_append_left, get_or_default}
 use Rattle.std.proofs.lemmas.List.FromFn.{length-map-range_with_len, get_or-map-range_with_len}
@@ -14,7 +14,7 @@ use Rattle.workload.specs.World.{IsComplete, IsSetWithin, world_of, fare_or_none
 use Rattle.workload.specs.Gaps.{AreInCentres}
 
 -- rows of n items, laid end to end, have n items each
-length-rows : {X : Type 0} (g : ℕ → ℕ → X) (n start m : ℕ) → length (flat_map (λ a. map (g a) (range_with_len 0 n)) (range_with_len start m)) ≡ m * n
+pub length-rows : {X : Type 0} (g : ℕ → ℕ → X) (n start m : ℕ) → length (flat_map (λ a. map (g a) (range_with_len 0 n)) (range_with_len start m)) ≡ m * n
 length-rows g n start zero = omega arith
 length-rows g n start (suc m) =
     let row = length-map-range_with_len (g start) 0 n in
@@ -94,5 +94,8 @@ pub fare_is : (t : Tabled) (sets : List AccessSet) (from to : ℕ) → from < co
     → fare_of (world_of t sets) from to ≡ fare_or_none (link_at t from to)
 fare_is t sets from to low within =
     let here : 0 + from ≡ from = omega arith in
-    get_or-rows (λ a b. fare_or_none (link_at t a b)) (count_of t) 0 (count_of t) from to no_fare low within
+    let fares = flat_map (λ a. map (λ b. fare_or_none (link_at t a b)) (range_with_len 0 (count_of t))) (range_with_len 0 (count_of t)) in
+    ap (λ b. cond (b && nat_lt to (count_of t)) (get_or fares (from * count_of t + to) no_fare) no_fare) (lt-ltb from (count_of t) low)
+    ∙ ap (λ b. cond b (get_or fares (from * count_of t + to) no_fare) no_fare) (lt-ltb to (count_of t) within)
+    ∙ get_or-rows (λ a b. fare_or_none (link_at t a b)) (count_of t) 0 (count_of t) from to no_fare low within
     ∙ ap (λ a. fare_or_none (link_at t a to)) here

@@ -1,4 +1,5 @@
 pub mod Limits
+pub mod Modes
 pub mod Load
 pub mod Kept
 pub mod Faults

@@ -1,6 +1,8 @@
 -- What a world says.
-use Rattle.std.specs.Prelude.{◌≡◌, ℕ, ◌+◌, ◌*◌, ◌<◌, ◌≤◌, List, length, map, Option, Some, None, All, slice_index_or}
-use Rattle.std.specs.List.{flat_map, range_with_len}
+use Rattle.std.specs.Prelude.{◌≡◌, ℕ, ◌+◌, ◌*◌, ◌<◌, ◌≤◌, ◌&&◌, nat_lt, nat_eq, if◌then◌else◌, List, length, map, Option, Some, None, All, slice_index_or}
+use Rattle.std.specs.List.{flat_map, range_with_len, IsDistinct}
+use Rattle.std.specs.Cmp.Lexicographic.{pointwise}
+use Rattle.span_base.specs.Name.{IsName}
 use Rattle.price_tables.specs.declared.prices.DcPrice.{DcPrice}
 use Rattle.price_tables.specs.declared.prices.Fare.{Fare}
 use Rattle.price_tables.specs.declared.prices.Centre.{Centre}
@@ -10,7 +12,7 @@ use Rattle.workload.specs.declared.rules.SetRule.{SetRule}
 use Rattle.workload.specs.declared.rules.Demand.{Demand}
 use Rattle.workload.specs.declared.rules.AccessSet.{AccessSet}
 use Rattle.workload.specs.Limits.{IsRuleWithin, AreCountsWithin}
-use Rattle.workload.specs.Load.{no_set}
+use Rattle.workload.specs.Load.{no_set, AreLoaded}
 
 -- a world: its centres and its access sets with their members, both in file order, and a fare for
 -- every ordered pair of centres, in lexicographic order of the pair
@@ -34,9 +36,11 @@ centre_of w dc = slice_index_or w.centres dc no_centre
 abbrev pub price_of : Lists → ℕ → DcPrice
 price_of w dc = (centre_of w dc).price
 
--- the fare of the link from one centre to another
+-- the fare of the link from one centre to another, nothing where one of them isn't in the world
 abbrev pub fare_of : Lists → ℕ → ℕ → Fare
-fare_of w from to = slice_index_or w.fares (from * centre_count w + to) no_fare
+fare_of w from to =
+    if nat_lt from (centre_count w) && nat_lt to (centre_count w) then slice_index_or w.fares (from * centre_count w + to) no_fare
+    else no_fare
 
 -- what a KiB costs from one centre to another, in pico-dollars
 abbrev pub transfer_of : Lists → ℕ → ℕ → ℕ
@@ -55,6 +59,10 @@ rule_of w set = (set_of w set).rule
 
 abbrev pub members_of : Lists → ℕ → List Demand
 members_of w set = (set_of w set).members
+
+-- the name of a centre
+abbrev pub name_of : Lists → ℕ → List ℕ
+name_of w dc = (centre_of w dc).name
 
 -- the fare of a link, nothing where there is none
 abbrev pub fare_or_none : Option Fare → Fare
@@ -93,3 +101,11 @@ pub record IsComplete (w : Lists) : Type 0 where
   pub prices : All (λ c. IsPriceWithin c.price) w.centres
   pub fares : All IsFareWithin w.fares
   pub sets : All (IsSetWithin (centre_count w)) w.sets
+
+-- the names of a world are spelled as names; no two centres share one, nor do two sets, and the
+-- members of a set stand in different centres
+pub record IsNamed (w : Lists) : Type 0 where
+  pub names : All (λ c. IsName c.name) w.centres
+  pub providers : All (λ c. IsName c.provider) w.centres
+  pub distinct : IsDistinct (pointwise nat_eq) (map (λ c. c.name) w.centres)
+  pub sets : AreLoaded w.sets

@@ -1,4 +1,4 @@
-ghost use Rattle.std.specs.Prelude.{◌≡◌, ◌<◌, ◌≤◌, ◌++◌, ◌∷◌, [], ◌≢◌, ℕ, false, None, Some, IfOk, IfErr, IfSome, IfNone, OnOk, OnErr, length, option_map};
+ghost use Rattle.std.specs.Prelude.{◌≡◌, ◌<◌, ◌≤◌, ◌++◌, ◌∷◌, [], ◌≢◌, ℕ, false, None, Some, IfOk, IfErr, IfSome, IfNone, IsTrue, ◌↔◌, All, OnOk, OnErr, length, option_map};
 ghost use Rattle.std.specs.Prelude.{nat_eq};
 ghost use Rattle.std.specs.List.{list_any};
 ghost use Rattle.std.specs.Cmp.Lexicographic.{pointwise};
@@ -6,6 +6,7 @@ ghost use Rattle.span_base.specs.Name.{IsName};
 ghost use Rattle.workload.specs.Limits.{IsRuleWithin, AreCountsWithin};
 ghost use Rattle.workload.specs.Load.{set_at, set_number, with_set, with_demand, with_member, AreLoaded};
 ghost use Rattle.workload.specs.Kept.{AreNames};
+ghost use Rattle.workload.specs.Gaps.{AreInCentres};
 ghost use Rattle.workload.specs.Faults.{set_fault, demand_fault, has_member, IsDue};
 
 use crate::fault::LoadFault;
@@ -180,6 +181,15 @@ impl Workload {
         self.sets[set.0 as usize].members.as_slice()
     }
 
+    /// Whether each demand's centre is one of the first `count`.
+    pub fn are_in_centres(&self, count: u8) -> bool
+        ensures { IsTrue result ↔ AreInCentres count self.now }
+    {
+        self.sets
+            .iter()
+            .all(|set| are_in_centres(set.members.as_slice(), count))
+    }
+
     /// The first set that has no member.
     pub fn first_empty(&self) -> Option<SetId>
         ensures empty { IfSome result (λ set. (set.0 < length self.now) × ((set_at self.now set.0).members ≡ [])) }
@@ -193,6 +203,13 @@ impl Workload {
         }
         None
     }
+}
+
+/// Whether the centre of each member is one of the first `count`.
+fn are_in_centres(members: &[Demand], count: u8) -> bool
+    ensures { IsTrue result ↔ All (λ demand. demand.dc.0 < count) members.now }
+{
+    members.iter().all(|member| member.dc.0 < count)
 }
 
 /// Whether the centre is one of the members'.

@@ -11,6 +11,23 @@ pub enum Mode {
     Strong,
 }
 
+impl Mode {
+    ghost use Rattle.std.specs.Prelude.{◌≡◌};
+    ghost use Rattle.workload.specs.Modes.{word_of};
+
+    /// The word of a mode in worlds and in plans. It is lent as long as the mode, so that it can
+    /// stand beside other borrowed fields.
+    pub fn word(&self) -> &str
+        ensures { result.now ≡ word_of self.now }
+    {
+        match self {
+            Mode::Direct => "direct",
+            Mode::Relay => "relay",
+            Mode::Strong => "strong",
+        }
+    }
+}
+
 /// What a set asks of its policy.
 #[derive(Clone, Copy, Debug, PartialEq, Eq)]
 pub struct SetRule {

@@ -2,7 +2,7 @@ ghost use Rattle.std.specs.Prelude.{◌≡◌, ◌<◌, ◌≤◌, IfOk, IfErr, 
 ghost use Rattle.price_tables.specs.Limits.{IsPriceWithin, IsFareWithin};
 ghost use Rattle.price_tables.specs.Tables.{count_of, AreAllLinked};
 ghost use Rattle.workload.specs.Limits.{IsRuleWithin};
-ghost use Rattle.workload.specs.World.{world_of, fare_or_none, IsComplete, IsDemandWithin, centre_count, centre_of, price_of, fare_of, set_of, rule_of, members_of};
+ghost use Rattle.workload.specs.World.{world_of, fare_or_none, IsComplete, IsNamed, IsDemandWithin, centre_count, centre_of, price_of, fare_of, set_of, rule_of, members_of};
 ghost use Rattle.workload.specs.Gaps.{AreInCentres, HaveMembersBefore, IsFirstGap};
 
 use crate::fault::Gap;
@@ -57,7 +57,9 @@ impl World {
     pub fn centre_count(&self) -> u8
         ensures count { result ≡ centre_count self.now }
         ensures complete { IsComplete self.now }
+        ensures named { IsNamed self.now }
     {
+        let _sets = self.load.sets();
         self.tables.count()
     }
 
@@ -123,8 +125,9 @@ impl World {
         self.load.members(set)
     }
 
+    /// The centres with their links.
     pub fn tables(&self) -> &Tables
-        ensures { result.now.centres ≡ self.now.centres }
+        ensures { world_of result.now self.now.sets ≡ self.now }
     {
         &self.tables
     }
