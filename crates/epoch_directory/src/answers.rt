@@ -5,11 +5,10 @@ ghost use Rattle.wire_msg.specs.Sizes.{bulk_of, frame_size};
 ghost use Rattle.epoch_directory.specs.Step.{answer};
 
 use crate::directory::Directory;
-use crate::sizes::policy_len;
 use span_base::{KeyId, Listed};
 use std::alloc::{AllocError, Global};
 use wire_msg::sizes::{HERE_BYTES, SWITCHED_BYTES};
-use wire_msg::{Actor, Bulk, Message, Outputs, Post, Tag};
+use wire_msg::{Actor, Bulk, Message, Outputs, Post, Tag, policy_len};
 
 impl Directory {
     ghost use Rattle.epoch_directory.specs.State.{current_of, IsPublished};

@@ -5,7 +5,6 @@
 mod answers;
 mod directory;
 mod publish;
-mod sizes;
 mod table;
 
 pub use directory::Directory;
