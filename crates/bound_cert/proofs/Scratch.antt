@@ -17,7 +17,7 @@ use Rattle.zero_one.specs.Rows.{row_weight, weight_of}
 use Rattle.bound_cert.specs.declared.leaves.Pair.{Pair}
 use Rattle.bound_cert.specs.Leaves.{row_at, coef_of, bound_part, column_part, least_of, sum_below}
 use Rattle.bound_cert.specs.Sizes.{coefs_size, pairs_weight}
-use Rattle.bound_cert.proofs.IntSums.{int_sum_by_more}
+use Rattle.zero_one.proofs.IntSums.{int_sum_by_more}
 use Rattle.bound_cert.proofs.Scaled.{scale_add}
 
 -- the entry past the end

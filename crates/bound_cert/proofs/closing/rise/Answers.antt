@@ -1,6 +1,6 @@
 use Rattle.std.proofs.Common.{◌-◌, arith, refl}
 use Rattle.bound_cert.specs.declared.leaves.Pair.{Pair}
-use Rattle.bound_cert.proofs.Risings.{rises_more, rises_not, rises_all}
+use Rattle.zero_one.proofs.Risings.{rises_more, rises_not, rises_all}
 use Rattle.bound_cert.proofs.closing.rise.Goals as goal
 
 -- the pair past the end

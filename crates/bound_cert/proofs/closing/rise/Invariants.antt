@@ -1,5 +1,5 @@
 use Rattle.bound_cert.specs.declared.leaves.Pair.{Pair}
-use Rattle.bound_cert.proofs.Risings.{RisesBelow}
+use Rattle.zero_one.proofs.Risings.{RisesBelow}
 use Rattle.bound_cert.proofs.closing.rise.Given as goal
 
 abbrev pub invariant-loop-i : goal.invariant-loop-i
