@@ -11,10 +11,10 @@ use Rattle.span_base.specs.DcSet.{has, centres_of, centres_below}
 use Rattle.span_base.specs.declared.policy.Policy.{Policy}
 use Rattle.span_base.specs.declared.policy.Policy.TheVariants.{Direct}
 use Rattle.span_base.specs.declared.policy.Near.{Near}
-use Rattle.slo_rules.specs.World.{Lists, centre_count, centre_of, rule_of, members_of}
-use Rattle.slo_rules.specs.declared.world.Demand.{Demand}
-use Rattle.slo_rules.specs.declared.world.SetRule.{SetRule}
-use Rattle.slo_rules.specs.declared.world.Mode.TheVariants as mode
+use Rattle.workload.specs.World.{Lists, centre_count, centre_of, rule_of, members_of}
+use Rattle.workload.specs.declared.rules.Demand.{Demand}
+use Rattle.workload.specs.declared.rules.SetRule.{SetRule}
+use Rattle.workload.specs.declared.rules.Mode.TheVariants as mode
 use Rattle.slo_rules.specs.declared.rules.Rule.{Rule}
 use Rattle.slo_rules.specs.declared.rules.Rule.TheVariants as rule
 use Rattle.slo_rules.specs.Rules.{or_else, unless, first_breach, is_read_near, is_write_near, count_in, has_mode, has_shape, lies_below, same_list, centres_asking, primary_members, primaries_below, breach_of_primary, breach_of_reading, breach_of_writing, breach_of_mode, breach_of_providers, providers_of, first_broken_rule, IsAllowed, code_of, mode_of, failures_of}

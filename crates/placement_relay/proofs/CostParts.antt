@@ -5,8 +5,8 @@ use Rattle.span_base.specs.declared.dc_set.DcSet.{DcSet}
 use Rattle.span_base.specs.DcSet.{has, centres_of}
 use Rattle.span_base.specs.declared.policy.Policy.TheVariants.{Direct}
 use Rattle.span_base.specs.declared.policy.Near.{Near}
-use Rattle.slo_rules.specs.World.{Lists, centre_count, price_of, rule_of, members_of}
-use Rattle.slo_rules.specs.declared.world.Demand.{Demand}
+use Rattle.workload.specs.World.{Lists, centre_count, price_of, rule_of, members_of}
+use Rattle.workload.specs.declared.rules.Demand.{Demand}
 use Rattle.slo_rules.specs.Cost.{policy_cost, reading_cost, put_cost}
 use Rattle.zero_one.specs.Rows.{bit_of}
 use Rattle.zero_one.specs.Program.{value_of}

@@ -10,11 +10,11 @@ use Rattle.span_base.specs.declared.dc_set.DcSet.{DcSet}
 use Rattle.span_base.specs.DcSet.{has, centres_of, insert, no_centre as no_dc}
 use Rattle.span_base.proofs.Sets.{has-insert_same, has-insert_other, has-below, has-no_centre}
 use Rattle.span_base.specs.declared.policy.Near.{Near}
-use Rattle.slo_rules.specs.World.{Lists, centre_count, rule_of, members_of}
+use Rattle.workload.specs.World.{Lists, centre_count, rule_of, members_of}
 use Rattle.slo_rules.specs.Rules.{IsAllowed, is_read_near, is_write_near}
 use Rattle.slo_rules.specs.Cost.{policy_cost}
-use Rattle.slo_rules.specs.declared.world.Demand.{Demand}
-use Rattle.slo_rules.specs.declared.world.Mode.TheVariants as mode
+use Rattle.workload.specs.declared.rules.Demand.{Demand}
+use Rattle.workload.specs.declared.rules.Mode.TheVariants as mode
 use Rattle.zero_one.specs.Rows.{bit_of}
 use Rattle.zero_one.specs.Program.{IsFeasible, value_of}
 use Rattle.placement_relay.specs.Direct.{centres, numbered_members, h, replica_cost, gets_cost, direct_costs, direct_program, read_near}

@@ -4,7 +4,8 @@ use Rattle.span_base.specs.declared.dc_set.DcSet.{DcSet}
 use Rattle.span_base.specs.declared.policy.Policy.{Policy}
 use Rattle.span_base.specs.declared.policy.Policy.TheVariants.{Direct, Relay, Strong}
 use Rattle.span_base.specs.declared.policy.Near.{Near}
-use Rattle.slo_rules.specs.World.{Lists, IsSetWithin, centre_count, no_set, rule_of, set_of}
+use Rattle.workload.specs.Load.{no_set}
+use Rattle.workload.specs.World.{Lists, IsSetWithin, centre_count, rule_of, set_of}
 use Rattle.slo_rules.specs.Rules.{IsAllowed, code_of}
 use Rattle.slo_rules.specs.Cost.{IsLeast, HasNoPolicy}
 use Rattle.zero_one.specs.Program.{IsFeasible}

@@ -8,4 +8,3 @@ pub mod DecodedLaws
 pub mod DirectSets
 pub mod Loops
 pub mod Limits
-pub mod SmallWorlds

@@ -1,5 +1,5 @@
 -- The program of a direct set keeps the limits of programs.
-use Rattle.std.proofs.Common.{◌≡◌, ℕ, zero, suc, ◌+◌, ◌*◌, ◌^◌, ◌<◌, ◌≤◌, inl, inr, Bool, true, false, cond, List, [], ◌∷◌, ◌++◌, length, get_or, map, Some, refl, sym, ap, subst, arith, pos, unsigned_abs}
+use Rattle.std.proofs.Common.{◌≡◌, ℕ, zero, suc, ◌+◌, ◌*◌, ◌^◌, ◌<◌, ◌≤◌, inl, inr, Bool, true, false, cond, ◌&&◌, nat_lt, List, [], ◌∷◌, ◌++◌, length, get_or, map, Some, refl, sym, ap, subst, arith, pos, unsigned_abs}
 use Rattle.std.specs.Prelude.{slice_get, slice_index, All, ⊤}
 use Rattle.std.specs.List.{sum_by, filter, flat_map, range_with_len, AllByRecursion}
 use Rattle.std.specs.List.Sorted.{IsStrictlyIncreasing}
@@ -11,8 +11,11 @@ use Rattle.std.proofs.lemmas.List.Sums.{sum_by-cons, sum_by-le, length-filter, c
 use Rattle.std.proofs.lemmas.List.FromFn.{length-range_with_len, get_or-range_with_len, length-map-range_with_len, length-enumerate_from}
 use Rattle.std.proofs.lemmas.List.Kept.{IsStrictlyIncreasing-filter}
 use Rattle.std.proofs.lemmas.Simd.{map-map}
-use Rattle.slo_rules.specs.World.{Lists, IsComplete, IsPriceWithin, IsFareWithin, IsRuleWithin, IsDemandWithin, centre_count, price_of, fare_of, rule_of, members_of, no_centre, no_fare}
-use Rattle.slo_rules.specs.declared.world.Demand.{Demand}
+use Rattle.price_tables.specs.Limits.{IsPriceWithin, IsFareWithin}
+use Rattle.price_tables.specs.Tables.{no_centre}
+use Rattle.workload.specs.Limits.{IsRuleWithin}
+use Rattle.workload.specs.World.{Lists, IsComplete, IsDemandWithin, centre_count, price_of, fare_of, rule_of, members_of, no_fare}
+use Rattle.workload.specs.declared.rules.Demand.{Demand}
 use Rattle.slo_rules.specs.Rules.{is_read_near, is_write_near}
 use Rattle.slo_rules.specs.Cost.{get_cost, put_cost}
 use Rattle.zero_one.specs.declared.rows.Entry.{Entry}
@@ -36,13 +39,21 @@ price_within w complete d = elim (cases_lt d (centre_count w)) [
       subst (λ c. IsPriceWithin c.price) (sym none) (record { store = omega arith; get = omega arith; put = omega arith })
 ]
 
-fare_within : (w : Lists) → IsComplete w → (from to : ℕ) → IsFareWithin (fare_of w from to)
-fare_within w complete from to = elim (cases_lt (from * centre_count w + to) (length w.fares)) [
-  | inl low ↦ complete.fares (from * centre_count w + to) no_fare low
-  | inr past ↦
-      let none : get_or w.fares (from * centre_count w + to) no_fare ≡ no_fare = get_or_past w.fares (from * centre_count w + to) no_fare past in
-      subst IsFareWithin (sym none) (record { transfer = omega arith; latency = omega arith })
+no_fare_within : IsFareWithin no_fare
+no_fare_within = record { transfer = omega arith; latency = omega arith }
+
+fare_in_list : (w : Lists) → IsComplete w → (place : ℕ) → IsFareWithin (get_or w.fares place no_fare)
+fare_in_list w complete place = elim (cases_lt place (length w.fares)) [
+  | inl low ↦ complete.fares place no_fare low
+  | inr past ↦ subst IsFareWithin (sym (get_or_past w.fares place no_fare past)) no_fare_within
 ]
+
+fare_within : (w : Lists) → IsComplete w → (from to : ℕ) → IsFareWithin (fare_of w from to)
+fare_within w complete from to =
+    elim (nat_lt from (centre_count w) && nat_lt to (centre_count w)) as (λ b. IsFareWithin (cond b (get_or w.fares (from * centre_count w + to) no_fare) no_fare)) [
+      | true ↦ fare_in_list w complete (from * centre_count w + to)
+      | false ↦ no_fare_within
+    ]
 
 module _ (w : Lists) (set : ℕ) (s : IsDirectSet w set) where
   rule_within : IsRuleWithin (rule_of w set)
@@ -58,12 +69,12 @@ module _ (w : Lists) (set : ℕ) (s : IsDirectSet w set) where
   put_small a d = omega (arith, (price_within w s.complete d).put, mul-le (rule_of w set).object (fare_of w a d).transfer (10 ^ 5) (10 ^ 9) rule_within.object (fare_within w s.complete a d).transfer)
 
   gets_small : (m : Demand) → IsDemandWithin (centre_count w) m → (d : ℕ) → gets_cost w set m d < 10 ^ 24
-  gets_small m within d = omega (arith, mul-le m.gets (get_cost w (rule_of w set) d m.dc.0) (10 ^ 9) (10 ^ 9 + 10 ^ 14) within.gets (get_small d m.dc.0))
+  gets_small m within d = omega (arith, mul-le m.gets (get_cost w (rule_of w set) d m.dc.0) (10 ^ 9) (10 ^ 9 + 10 ^ 14) within.counts.gets (get_small d m.dc.0))
 
   replica_small : (d : ℕ) → replica_cost w set d < 10 ^ 24
   replica_small d =
       let puts : Demand → ℕ = λ m. m.puts * put_cost w (rule_of w set) m.dc.0 d in
-      let each = each-weaker (IsDemandWithin (centre_count w)) (λ m. puts m ≤ 10 ^ 9 * (10 ^ 9 + 10 ^ 14)) (λ m within. mul-le m.puts (put_cost w (rule_of w set) m.dc.0 d) (10 ^ 9) (10 ^ 9 + 10 ^ 14) within.puts (put_small m.dc.0 d)) (members_of w set) each_member in
+      let each = each-weaker (IsDemandWithin (centre_count w)) (λ m. puts m ≤ 10 ^ 9 * (10 ^ 9 + 10 ^ 14)) (λ m within. mul-le m.puts (put_cost w (rule_of w set) m.dc.0 d) (10 ^ 9) (10 ^ 9 + 10 ^ 14) within.counts.puts (put_small m.dc.0 d)) (members_of w set) each_member in
       let sum = sum_by-le puts (10 ^ 9 * (10 ^ 9 + 10 ^ 14)) (members_of w set) (All-from_recursion (λ m. puts m ≤ 10 ^ 9 * (10 ^ 9 + 10 ^ 14)) (members_of w set) each) in
       let stored = mul-le (rule_of w set).stored (price_of w d).store (10 ^ 12) (10 ^ 9) rule_within.stored (price_within w s.complete d).store in
       omega (arith, sum, stored, (set_within w set s).few_members)

@@ -6,7 +6,7 @@ use Rattle.std.proofs.lemmas.List.Sums.{fold_push}
 use Rattle.std.proofs.lemmas.List.Elements.{filter-append}
 use Rattle.std.proofs.lemmas.List.Concat.{flat_map-append}
 use Rattle.std.proofs.lemmas.List.FromFn.{map-range_with_len_more, get_or-enumerate_from, length-enumerate_from}
-use Rattle.slo_rules.specs.World.{Lists, rule_of}
+use Rattle.workload.specs.World.{Lists, rule_of}
 use Rattle.zero_one.specs.declared.rows.Row.{Row}
 use Rattle.placement_relay.specs.Direct.{plus, has_replicas}
 use Rattle.placement_relay.proofs.Sums.{range-append}

@@ -3,8 +3,8 @@ use Rattle.std.proofs.Common.{◌≡◌, ℕ, zero, suc, ◌+◌, ◌<◌, ◌�
 use Rattle.std.specs.List.{count_by, range_with_len, All, AllByRecursion, flat_map, enumerate_from}
 use Rattle.std.proofs.lemmas.List.Elements.{All-from_recursion, recursion_from_All}
 use Rattle.std.proofs.lemmas.Bool.{cases_lt}
-use Rattle.slo_rules.specs.World.{Lists, centre_count, rule_of, members_of}
-use Rattle.slo_rules.specs.declared.world.Demand.{Demand}
+use Rattle.workload.specs.World.{Lists, centre_count, rule_of, members_of}
+use Rattle.workload.specs.declared.rules.Demand.{Demand}
 use Rattle.zero_one.specs.Rows.{Meets, bit_of}
 use Rattle.placement_relay.specs.Direct.{centres, numbered_members, h, read_near, write_near, reads_somewhere, reads_a_replica, has_replicas, direct_rows}
 use Rattle.placement_relay.proofs.Values.{meets-plus, meets-plus-back, meets-under, meets-under-back}

@@ -9,10 +9,10 @@ use Rattle.span_base.specs.DcSet.{has}
 use Rattle.span_base.specs.declared.policy.Policy.{Policy}
 use Rattle.span_base.specs.declared.policy.Policy.TheVariants.{Direct, Relay, Strong}
 use Rattle.span_base.specs.declared.policy.Near.{Near}
-use Rattle.slo_rules.specs.World.{Lists, centre_count, rule_of, members_of}
+use Rattle.workload.specs.World.{Lists, centre_count, rule_of, members_of}
 use Rattle.slo_rules.specs.Rules.{IsAllowed, is_read_near, is_write_near, code_of}
 use Rattle.slo_rules.specs.Cost.{policy_cost}
-use Rattle.slo_rules.specs.declared.world.Mode.TheVariants as mode
+use Rattle.workload.specs.declared.rules.Mode.TheVariants as mode
 use Rattle.zero_one.specs.Rows.{bit_of}
 use Rattle.zero_one.specs.Program.{IsFeasible, value_of}
 use Rattle.placement_relay.specs.Direct.{centres, h, replica_cost, gets_cost, direct_costs, direct_program}

@@ -6,10 +6,10 @@ use Rattle.std.specs.List.{flat_map, enumerate_from, filter, range_with_len, sum
 use Rattle.zero_one.specs.Contents.{Contents}
 use Rattle.zero_one.specs.declared.rows.Entry.{Entry}
 use Rattle.zero_one.specs.declared.rows.Row.{Row}
-use Rattle.slo_rules.specs.World.{Lists, centre_count, price_of, rule_of, members_of}
+use Rattle.workload.specs.World.{Lists, centre_count, price_of, rule_of, members_of}
 use Rattle.slo_rules.specs.Rules.{is_read_near, is_write_near}
 use Rattle.slo_rules.specs.Cost.{get_cost, put_cost}
-use Rattle.slo_rules.specs.declared.world.Demand.{Demand}
+use Rattle.workload.specs.declared.rules.Demand.{Demand}
 
 -- the numbers of the centres
 abbrev pub centres : Lists → List ℕ

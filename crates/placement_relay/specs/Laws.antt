@@ -1,10 +1,10 @@
 -- How the policies of a direct set and the choices of its program stand for one another.
 use Rattle.std.specs.Prelude.{◌≡◌, ℕ, ◌<◌, ◌≤◌, Bool, List, length}
 use Rattle.span_base.specs.declared.policy.Policy.{Policy}
-use Rattle.slo_rules.specs.World.{Lists, IsComplete, rule_of}
+use Rattle.workload.specs.World.{Lists, IsComplete, rule_of}
 use Rattle.slo_rules.specs.Rules.{IsAllowed}
 use Rattle.slo_rules.specs.Cost.{policy_cost}
-use Rattle.slo_rules.specs.declared.world.Mode.TheVariants.{Direct}
+use Rattle.workload.specs.declared.rules.Mode.TheVariants.{Direct}
 use Rattle.zero_one.specs.Program.{IsFeasible, value_of}
 use Rattle.placement_relay.specs.Direct.{direct_program, direct_costs}
 use Rattle.placement_relay.specs.Placed.{placed, decoded}

@@ -6,8 +6,8 @@ use Rattle.span_base.specs.DcSet.{has, insert, no_centre as no_dc}
 use Rattle.span_base.specs.declared.policy.Policy.{Policy}
 use Rattle.span_base.specs.declared.policy.Policy.TheVariants.{Direct, Relay, Strong}
 use Rattle.span_base.specs.declared.policy.Near.{Near}
-use Rattle.slo_rules.specs.World.{Lists, rule_of}
-use Rattle.slo_rules.specs.declared.world.Demand.{Demand}
+use Rattle.workload.specs.World.{Lists, rule_of}
+use Rattle.workload.specs.declared.rules.Demand.{Demand}
 use Rattle.zero_one.specs.Rows.{bit_of}
 use Rattle.placement_relay.specs.Direct.{centres, numbered_members, read_near, h}
 

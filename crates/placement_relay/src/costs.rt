@@ -1,13 +1,13 @@
 //! What the variables of a direct set cost, in pico-dollars.
 ghost use Rattle.std.specs.Prelude.{◌≡◌, ◌+◌, ◌*◌, ◌^◌, ◌<◌, ◌≤◌, ◌++◌, map, IfOk, OnOk};
-ghost use Rattle.slo_rules.specs.World.{IsDemandWithin, centre_count, price_of, rule_of};
+ghost use Rattle.workload.specs.World.{IsDemandWithin, centre_count, price_of, rule_of};
 ghost use Rattle.slo_rules.specs.Cost.{get_cost, put_cost};
 ghost use Rattle.placement_relay.specs.Direct.{centres, replica_cost, gets_cost, direct_costs};
 ghost use Rattle.placement_relay.specs.Laws.{IsDirectSet};
 
-use slo_rules::{Demand, World};
 use span_base::{DcId, SetId};
 use std::alloc::{AllocError, Global};
+use workload::{Demand, World};
 
 /// What one get costs that a centre serves to a member.
 fn get_cost(world: &World, set: SetId, dc: DcId, member: DcId) -> u128

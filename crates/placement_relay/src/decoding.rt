@@ -1,5 +1,5 @@
 ghost use Rattle.std.specs.Prelude.{◌≡◌, ◌+◌, ◌*◌, ◌<◌, ◌≤◌, length, map, IfOk};
-ghost use Rattle.slo_rules.specs.World.{IsDemandWithin, centre_count, members_of};
+ghost use Rattle.workload.specs.World.{IsDemandWithin, centre_count, members_of};
 ghost use Rattle.slo_rules.specs.Rules.{IsAllowed};
 ghost use Rattle.slo_rules.specs.Cost.{policy_cost};
 ghost use Rattle.zero_one.specs.Program.{IsFeasible, value_of};
@@ -9,9 +9,9 @@ ghost use Rattle.placement_relay.specs.Laws.{IsDirectSet};
 
 use crate::near::is_read_near;
 use crate::rows::first_read;
-use slo_rules::{Demand, World};
 use span_base::{DcId, DcSet, Listed, Near, Policy, SetId};
 use std::alloc::{AllocError, Global};
+use workload::{Demand, World};
 use zero_one::Bits;
 
 /// The centres whose variable is 1.

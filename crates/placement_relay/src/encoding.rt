@@ -4,9 +4,9 @@ ghost use Rattle.placement_relay.specs.Laws.{IsDirectSet};
 
 use crate::costs::direct_costs;
 use crate::rows::direct_rows;
-use slo_rules::World;
 use span_base::SetId;
 use std::alloc::{AllocError, Global};
+use workload::World;
 use zero_one::Program;
 
 /// The program of a direct set that asks for one provider.

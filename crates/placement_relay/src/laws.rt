@@ -1,6 +1,6 @@
 ghost use Rattle.std.specs.Prelude.{◌≡◌, ℕ, ◌≤◌, Bool, List, []};
 ghost use Rattle.span_base.specs.declared.policy.Policy.{Policy};
-ghost use Rattle.slo_rules.specs.World.{Lists};
+ghost use Rattle.workload.specs.World.{Lists};
 ghost use Rattle.slo_rules.specs.Rules.{IsAllowed};
 ghost use Rattle.slo_rules.specs.Cost.{IsLeast, HasNoPolicy};
 ghost use Rattle.slo_rules.specs.Examples.{two_centres, at, at_both};

@@ -3,6 +3,7 @@
 
 mod costs;
 mod decoding;
+mod direct;
 mod encoding;
 mod laws;
 mod near;
@@ -10,6 +11,7 @@ mod placing;
 mod rows;
 
 pub use decoding::decode;
+pub use direct::{is_direct_set, variable_count};
 pub use encoding::encode;
 pub use laws::{
     allowed_policies_are_placed, feasible_choices_are_decoded, least_choices_are_least_policies,

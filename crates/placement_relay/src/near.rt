@@ -1,13 +1,13 @@
 //! Which centres a member reads and writes within the goals of its set.
 ghost use Rattle.std.specs.Prelude.{◌≡◌, ◌<◌, IfOk};
-ghost use Rattle.slo_rules.specs.World.{IsDemandWithin, centre_count, rule_of};
+ghost use Rattle.workload.specs.World.{IsDemandWithin, centre_count, rule_of};
 ghost use Rattle.slo_rules.specs.Rules.{is_read_near, is_write_near};
 ghost use Rattle.placement_relay.specs.Direct.{read_near, write_near};
 ghost use Rattle.placement_relay.specs.Laws.{IsDirectSet};
 
-use slo_rules::{Demand, World};
 use span_base::{DcId, SetId};
 use std::alloc::{AllocError, Global};
+use workload::{Demand, World};
 
 pub(crate) fn is_read_near(world: &World, set: SetId, member: &Demand, dc: DcId) -> bool
     requires direct { IsDirectSet world.now set.0 }

@@ -8,9 +8,9 @@ ghost use Rattle.placement_relay.specs.Direct.{centres, direct_program, direct_c
 ghost use Rattle.placement_relay.specs.Placed.{placed};
 ghost use Rattle.placement_relay.specs.Laws.{IsDirectSet};
 
-use slo_rules::World;
 use span_base::{DcId, DcSet, Near, Policy, SetId};
 use std::alloc::{AllocError, Global};
+use workload::World;
 use zero_one::Bits;
 
 /// Puts a bit for each centre at the end: whether it keeps a replica.

@@ -1,14 +1,14 @@
 //! The rows of a direct set's program.
 ghost use Rattle.std.specs.Prelude.{◌≡◌, ◌+◌, ◌*◌, ◌<◌, ◌≤◌, pos, [], ◌∷◌, ◌++◌, length, map, IfOk, OnOk};
 ghost use Rattle.std.specs.List.{flat_map};
-ghost use Rattle.slo_rules.specs.World.{IsDemandWithin, centre_count, members_of};
+ghost use Rattle.workload.specs.World.{IsDemandWithin, centre_count, members_of};
 ghost use Rattle.placement_relay.specs.Direct.{centres, numbered_members, h, plus, minus, read_near, write_near, reads_somewhere, reads_a_replica, has_replicas, direct_rows};
 ghost use Rattle.placement_relay.specs.Laws.{IsDirectSet};
 
 use crate::near::{read_near, write_near};
-use slo_rules::{Demand, World};
 use span_base::{Listed, SetId};
 use std::alloc::{AllocError, Global};
+use workload::{Demand, World};
 use zero_one::{Entry, Row};
 
 /// The first of the variables that say where a member reads; the member is counted from 0.

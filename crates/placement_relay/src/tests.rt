@@ -1,45 +1,71 @@
 //! Programs, choices and policies of small worlds.
-ghost use Rattle.std.specs.Prelude.{◌≡◌, ◌^◌, ◌≤◌, IfOk, IsTrue};
-ghost use Rattle.slo_rules.specs.World.{};
-ghost use Rattle.slo_rules.specs.declared.world.DcPrice.{DcPrice};
+ghost use Rattle.std.specs.Prelude.{IfOk};
+ghost use Rattle.span_base.specs.Name.{IsName};
 ghost use Rattle.placement_relay.specs.Laws.{IsDirectSet};
 
-use crate::{decode, encode, place};
-use slo_rules::{AccessSet, Centre, DcPrice, Demand, Fare, Mode, SetRule, World, fault_of};
-use span_base::{DcId, DcSet, Listed, Near, Policy, SetId, Word};
+use crate::{decode, encode, is_direct_set, place};
+use price_tables::{DcPrice, Fare, Tables};
+use slo_rules::fault_of;
+use span_base::{DcId, DcSet, Listed, Near, Policy, SetId, Word, read_name};
 use std::alloc::{AllocError, Global};
 use std::test::Fail;
+use workload::{Demand, Mode, SetRule, Workload, World};
 use zero_one::{Entry, Program, Row};
 
 const SET: SetId = SetId(0);
 
-fn centre(alloc: Global, name: &str, store: u64) -> Result<Centre, AllocError>
-    ensures { IfOk result (λ c. c.price ≡ record { store = store; get = 5; put = 7 }) }
+fn name(alloc: Global, text: &str) -> Result<Word, Fail>
+    ensures { IfOk result IsName }
 {
-    Ok(Centre {
-        name: Word::from_string(String::from_str(alloc, name)?),
-        provider: Word::from_string(String::from_str(alloc, name)?),
-        price: DcPrice {
-            store,
-            get: 5,
-            put: 7,
-        },
-    })
+    let name = Word::from_string(String::from_str(alloc, text)?);
+    read_name(name.as_bytes())?;
+    Ok(name)
 }
 
-/// A dear centre with the one member, and a cheap one 20 ms away.
-fn two_centres(alloc: Global, goal: u32) -> Result<World, AllocError>
-    requires { goal ≤ 10 ^ 6 }
-    ensures { IfOk result (λ world. IsDirectSet world 0) }
-{
-    let near = Fare {
-        transfer: 0,
-        latency: 1,
+fn add_centre(alloc: Global, tables: &mut Tables, centre: &str, store: u64) -> Result<(), Fail> {
+    let name = name(alloc, centre)?;
+    let price = DcPrice {
+        store,
+        get: 5,
+        put: 7,
     };
-    let far = Fare {
-        transfer: 3,
-        latency: 20,
-    };
+    tables.add_dc(alloc, &name, &name, price)?;
+    Ok(())
+}
+
+/// Adds links, each from a centre to another with the price of a KiB and the round trip.
+fn add_links(
+    alloc: Global,
+    tables: &mut Tables,
+    links: &[(&str, &str, u64, u32)],
+) -> Result<(), Fail> {
+    for (from, to, transfer, latency) in links {
+        let fare = Fare {
+            transfer: *transfer,
+            latency: *latency,
+        };
+        tables.add_link(&name(alloc, from)?, &name(alloc, to)?, fare)?;
+    }
+    Ok(())
+}
+
+/// A dear centre, and a cheap one 20 ms away.
+fn dear_and_cheap(alloc: Global) -> Result<Tables, Fail> {
+    let mut tables = Tables::make(alloc)?;
+    add_centre(alloc, &mut tables, "x", 10)?;
+    add_centre(alloc, &mut tables, "y", 1)?;
+    let links = [
+        ("x", "x", 0, 1),
+        ("x", "y", 3, 20),
+        ("y", "x", 3, 20),
+        ("y", "y", 0, 1),
+    ];
+    add_links(alloc, &mut tables, &links)?;
+    Ok(tables)
+}
+
+/// One direct set with one member, in the first centre.
+fn one_set(alloc: Global, goal: u32) -> Result<Workload, Fail> {
     let rule = SetRule {
         mode: Mode::Direct,
         f: 0,
@@ -54,17 +80,29 @@ fn two_centres(alloc: Global, goal: u32) -> Result<World, AllocError>
         gets: 10,
         puts: 4,
     };
-    let dear = centre(alloc, "x", 10)?;
-    let cheap = centre(alloc, "y", 1)?;
-    let set = AccessSet {
-        name: Word::from_string(String::from_str(alloc, "s")?),
-        rule,
-        members: Listed::from_vec(vec![in alloc; member]?),
-    };
-    let centres = vec![in alloc; dear, cheap]?;
-    let fares = vec![in alloc; near, far, far, near]?;
-    let sets = vec![in alloc; set]?;
-    Ok(World::new(centres, fares, sets))
+    let set = name(alloc, "s")?;
+    let mut load = Workload::make(alloc);
+    load.add_set(alloc, &set, rule)?;
+    load.add_demand(&set, member)?;
+    Ok(load)
+}
+
+fn world_of(tables: Tables, load: Workload) -> Result<World, Fail> {
+    if !load.are_in_centres(tables.count()) {
+        return Err(Fail::new("a member in no centre"));
+    }
+    Ok(World::make(tables, load)?)
+}
+
+/// A dear centre with the one member, and a cheap one 20 ms away.
+fn two_centres(alloc: Global, goal: u32) -> Result<World, Fail>
+    ensures { IfOk result (λ world. IsDirectSet world 0) }
+{
+    let world = world_of(dear_and_cheap(alloc)?, one_set(alloc, goal)?)?;
+    if world.sets() == 0 || !is_direct_set(&world, SET) {
+        return Err(Fail::new("no direct set"));
+    }
+    Ok(world)
 }
 
 fn at(alloc: Global, replicas: DcSet, primary: u8) -> Result<Policy, AllocError> {

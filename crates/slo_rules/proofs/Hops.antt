@@ -8,7 +8,7 @@ use Rattle.span_base.specs.declared.policy.Hop.{Hop}
 use Rattle.span_base.specs.declared.policy.Policy.{Policy}
 use Rattle.span_base.specs.declared.policy.Policy.TheVariants.{Direct, Relay, Strong}
 use Rattle.span_base.proofs.Sets.{count_le}
-use Rattle.slo_rules.specs.World.{Lists, members_of}
+use Rattle.workload.specs.World.{Lists, members_of}
 use Rattle.slo_rules.specs.Cost.{hops_of}
 use Rattle.span_base.specs.DcSet.{has, centres_of}
 use Rattle.slo_rules.specs.Centres.{centres_from}

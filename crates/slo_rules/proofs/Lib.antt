@@ -4,4 +4,3 @@ pub mod ProviderNames
 pub mod Sums
 pub mod Unions
 pub mod Hops
-pub mod Limits

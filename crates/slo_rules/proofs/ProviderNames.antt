@@ -5,7 +5,7 @@ use Rattle.std.specs.Cmp.Lexicographic.{same_text}
 use Rattle.std.proofs.lemmas.Bool.{and_parts, ltb-true, cases_eq}
 use Rattle.span_base.specs.declared.dc_set.DcSet.{DcSet}
 use Rattle.span_base.specs.DcSet.{has, centres_below, centres_of}
-use Rattle.slo_rules.specs.World.{Lists, centre_of}
+use Rattle.workload.specs.World.{Lists, centre_of}
 use Rattle.slo_rules.specs.Centres.{centres_from}
 use Rattle.slo_rules.specs.Rules.{lies_below, same_list, same_provider, providers_of}
 use Rattle.slo_rules.proofs.Centres.{centres_of_is, centres_from-end, centres_from-next}

@@ -7,10 +7,10 @@ use Rattle.span_base.specs.declared.policy.Hop.{Hop}
 use Rattle.span_base.specs.declared.policy.Quorum.{Quorum}
 use Rattle.span_base.specs.declared.dc_set.DcSet.{DcSet}
 use Rattle.span_base.specs.DcSet.{centres_of}
-use Rattle.slo_rules.specs.World.{Lists, price_of, transfer_of, rule_of, members_of}
+use Rattle.workload.specs.World.{Lists, price_of, transfer_of, rule_of, members_of}
 use Rattle.slo_rules.specs.Rules.{IsAllowed, replicas_of, is_direct_hop}
-use Rattle.slo_rules.specs.declared.world.SetRule.{SetRule}
-use Rattle.slo_rules.specs.declared.world.Demand.{Demand}
+use Rattle.workload.specs.declared.rules.SetRule.{SetRule}
+use Rattle.workload.specs.declared.rules.Demand.{Demand}
 
 -- what it costs to keep an object's set at the replicas for an epoch
 abbrev pub storing_cost : Lists → SetRule → DcSet → ℕ

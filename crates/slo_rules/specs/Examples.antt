@@ -7,13 +7,13 @@ use Rattle.span_base.specs.declared.policy.Policy.TheVariants as policy
 use Rattle.span_base.specs.declared.policy.Near.{Near}
 use Rattle.span_base.specs.declared.policy.Hop.{Hop}
 use Rattle.span_base.specs.declared.policy.Quorum.{Quorum}
-use Rattle.slo_rules.specs.World.{Lists}
-use Rattle.slo_rules.specs.declared.world.Centre.{Centre}
-use Rattle.slo_rules.specs.declared.world.Fare.{Fare}
-use Rattle.slo_rules.specs.declared.world.Demand.{Demand}
+use Rattle.workload.specs.World.{Lists}
+use Rattle.price_tables.specs.declared.prices.Centre.{Centre}
+use Rattle.price_tables.specs.declared.prices.Fare.{Fare}
+use Rattle.workload.specs.declared.rules.Demand.{Demand}
 use Rattle.span_base.specs.declared.ids.DcId.{DcId}
-use Rattle.slo_rules.specs.declared.world.SetRule.{SetRule}
-use Rattle.slo_rules.specs.declared.world.Mode.TheVariants as mode
+use Rattle.workload.specs.declared.rules.SetRule.{SetRule}
+use Rattle.workload.specs.declared.rules.Mode.TheVariants as mode
 
 -- a centre, a fare and a member of these numbers
 abbrev pub centre : List ℕ → List ℕ → ℕ → ℕ → ℕ → Centre

@@ -8,11 +8,11 @@ use Rattle.span_base.specs.declared.policy.Hop.{Hop}
 use Rattle.span_base.specs.declared.policy.Quorum.{Quorum}
 use Rattle.span_base.specs.declared.dc_set.DcSet.{DcSet}
 use Rattle.span_base.specs.DcSet.{has, centres_of, meet, join, no_centre as no_dc}
-use Rattle.slo_rules.specs.World.{Lists, centre_count, centre_of, latency_of, rule_of, members_of}
-use Rattle.slo_rules.specs.declared.world.SetRule.{SetRule}
-use Rattle.slo_rules.specs.declared.world.Demand.{Demand}
-use Rattle.slo_rules.specs.declared.world.Mode.{Mode}
-use Rattle.slo_rules.specs.declared.world.Mode.TheVariants as mode
+use Rattle.workload.specs.World.{Lists, centre_count, centre_of, latency_of, rule_of, members_of}
+use Rattle.workload.specs.declared.rules.SetRule.{SetRule}
+use Rattle.workload.specs.declared.rules.Demand.{Demand}
+use Rattle.workload.specs.declared.rules.Mode.{Mode}
+use Rattle.workload.specs.declared.rules.Mode.TheVariants as mode
 use Rattle.slo_rules.specs.declared.rules.Rule.{Rule}
 use Rattle.slo_rules.specs.declared.rules.Rule.TheVariants as rule
 

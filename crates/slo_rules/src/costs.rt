@@ -1,13 +1,14 @@
 //! What a policy costs for an epoch, in pico-dollars.
 ghost use Rattle.std.specs.Prelude.{◌≡◌, ◌+◌, ◌*◌, ◌^◌, ◌<◌, ◌≤◌, true, length, sum_by, All};
 ghost use Rattle.span_base.specs.DcSet.{centres_of};
-ghost use Rattle.slo_rules.specs.World.{IsDemandWithin, centre_count, price_of, rule_of, members_of};
+ghost use Rattle.workload.specs.World.{IsDemandWithin, centre_count, price_of, rule_of, members_of};
 ghost use Rattle.slo_rules.specs.Rules.{fits_set};
 ghost use Rattle.slo_rules.specs.Cost.{storing_cost, get_cost, put_cost, reading_cost, direct_cost, puts_of, source_of, hops_of, hop_cost, quorum_cost, quorum_costs, request_cost, policy_cost};
 
+use crate::asked::{fare_at, price_at};
 use crate::replicas::replicas_of;
-use crate::world::{Demand, SetRule, World};
 use span_base::{CENTRES, DcId, DcSet, Hop, Near, Policy, Quorum, SetId};
+use workload::{Demand, SetRule, World};
 
 #[tactic(auto, using(crate::proofs::Sums::products))]
 fn stored_cost(world: &World, rule: &SetRule, dc: DcId) -> u128
@@ -15,7 +16,7 @@ fn stored_cost(world: &World, rule: &SetRule, dc: DcId) -> u128
     ensures cost { result ≡ rule.now.stored * (price_of world.now dc.0).store }
     ensures small { result ≤ 10 ^ 21 }
 {
-    u128::from(rule.stored) * u128::from(world.price_at(dc).store)
+    u128::from(rule.stored) * u128::from(price_at(world, dc).store)
 }
 
 #[tactic(auto, using(crate::proofs::Centres::centre_sums))]
@@ -39,8 +40,8 @@ fn get_cost(world: &World, rule: &SetRule, dc: DcId, member: DcId) -> u128
     ensures cost { result ≡ get_cost world.now rule.now dc.0 member.0 }
     ensures small { result ≤ 10 ^ 15 }
 {
-    let sent = u128::from(rule.object) * u128::from(world.fare_at(dc, member).transfer);
-    u128::from(world.price_at(dc).get) + sent
+    let sent = u128::from(rule.object) * u128::from(fare_at(world, dc, member).transfer);
+    u128::from(price_at(world, dc).get) + sent
 }
 
 #[tactic(auto, using(crate::proofs::Sums::products))]
@@ -49,8 +50,8 @@ fn put_cost(world: &World, rule: &SetRule, from: DcId, dc: DcId) -> u128
     ensures cost { result ≡ put_cost world.now rule.now from.0 dc.0 }
     ensures small { result ≤ 10 ^ 15 }
 {
-    let sent = u128::from(rule.object) * u128::from(world.fare_at(from, dc).transfer);
-    u128::from(world.price_at(dc).put) + sent
+    let sent = u128::from(rule.object) * u128::from(fare_at(world, from, dc).transfer);
+    u128::from(price_at(world, dc).put) + sent
 }
 
 #[tactic(auto, using(crate::proofs::Sums::products))]
@@ -199,7 +200,7 @@ fn quorum_puts_cost(world: &World, rule: &SetRule, m: &Demand, dc: DcId) -> u128
     ensures cost { result ≡ m.now.puts * ((price_of world.now dc.0).get + put_cost world.now rule.now m.now.dc.0 dc.0) }
     ensures small { result ≤ 2 * 10 ^ 24 }
 {
-    let one = u128::from(world.price_at(dc).get) + put_cost(world, rule, m.dc, dc);
+    let one = u128::from(price_at(world, dc).get) + put_cost(world, rule, m.dc, dc);
     u128::from(m.puts) * one
 }
 

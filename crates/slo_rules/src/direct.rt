@@ -1,12 +1,12 @@
 //! What a direct policy must meet: a primary for each member, and replicas that are near enough.
 ghost use Rattle.std.specs.Prelude.{◌≡◌, ◌<◌, true, ◌&&◌, length};
-ghost use Rattle.slo_rules.specs.World.{rule_of, members_of};
+ghost use Rattle.workload.specs.World.{rule_of, members_of};
 ghost use Rattle.slo_rules.specs.Rules.{is_read_near, is_write_near, count_in, first_breach, breach_of_primary, breach_of_reading, breach_of_writing, or_else};
 
 use crate::near::{is_read_near, is_write_near};
 use crate::rules::Rule;
-use crate::world::{Demand, SetRule, World};
 use span_base::{CENTRES, DcId, DcSet, Near, SetId};
+use workload::{Demand, SetRule, World};
 
 fn breach_of_primary(world: &World, rule: &SetRule, replicas: &DcSet, near: &Near) -> Option<Rule>
     ensures { result ≡ breach_of_primary world.now rule.now replicas.now near.now }

@@ -1,6 +1,7 @@
 //! What a policy of an access set must meet, and what it costs.
 #![tactic(auto)]
 
+mod asked;
 mod costs;
 mod direct;
 mod near;
@@ -11,12 +12,10 @@ mod rules;
 mod shape;
 mod strong;
 mod worked;
-mod world;
 
 pub use costs::cost;
 pub use rules::{Rule, fault_of, fits};
 pub use worked::{worked_costs, worked_faults, worked_policies};
-pub use world::{AccessSet, Centre, DcPrice, Demand, Fare, Mode, SetRule, World};
 
 #[cfg(test)]
 mod tests;

@@ -1,15 +1,15 @@
 //! With how many providers the replicas lie.
 ghost use Rattle.std.specs.Prelude.{◌≡◌, ◌+◌, ◌<◌, true, length};
 ghost use Rattle.std.specs.List.{list_any};
-ghost use Rattle.slo_rules.specs.World.{centre_count};
+ghost use Rattle.workload.specs.World.{centre_count};
 ghost use Rattle.slo_rules.specs.Centres.{centres_from};
 ghost use Rattle.slo_rules.specs.Rules.{breach_of_providers, providers_of, replicas_of, lies_below, same_provider};
 ghost use Rattle.span_base.specs.DcSet.{has, centres_of};
 
 use crate::replicas::replicas_of;
 use crate::rules::Rule;
-use crate::world::World;
 use span_base::{CENTRES, DcId, DcSet, Policy, SetId};
+use workload::World;
 
 /// Whether one of the replicas after `dc` lies with the same provider.
 #[tactic(auto, using(crate::proofs::ProviderNames::later_providers))]

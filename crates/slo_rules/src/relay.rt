@@ -1,14 +1,14 @@
 //! What a relay policy must meet: as a direct one, but a member writes to some replicas itself,
 //! and these pass its writes on.
 ghost use Rattle.std.specs.Prelude.{◌≡◌, ◌<◌, ◌&&◌, length};
-ghost use Rattle.slo_rules.specs.World.{rule_of, members_of};
+ghost use Rattle.workload.specs.World.{rule_of, members_of};
 ghost use Rattle.slo_rules.specs.Rules.{is_write_near, count_in, first_breach, or_else, is_direct_for, breach_of_primary, breach_of_reading, breach_of_hop, breach_of_writing};
 
 use crate::direct::{breach_of_primaries, breach_of_readings};
 use crate::near::is_write_near;
 use crate::rules::Rule;
-use crate::world::{Demand, SetRule, World};
 use span_base::{CENTRES, DcId, DcSet, Hop, Near, SetId};
+use workload::{Demand, SetRule, World};
 
 /// Whether a member writes to a centre itself.
 fn is_direct_for(hops: &[Hop], member: DcId, dc: DcId) -> bool

@@ -6,8 +6,8 @@ use crate::providers::breach_of_providers;
 use crate::relay::breach_of_relay;
 use crate::shape::has_shape;
 use crate::strong::breach_of_strong;
-use crate::world::{Mode, SetRule, World};
 use span_base::{DcId, Policy, SetId};
+use workload::{Mode, SetRule, World};
 
 /// What a policy breaks, in the order in which the rules are tried.
 #[derive(Clone, Copy, Debug, PartialEq, Eq)]

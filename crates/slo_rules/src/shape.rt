@@ -6,8 +6,8 @@ ghost use Rattle.span_base.specs.DcSet.{centres_of};
 ghost use Rattle.slo_rules.specs.Rules.{has_shape, lies_below, primaries_below, primary_members, quorum_members, centres_asking, same_list, has_hops, hops_due, due_from};
 
 use crate::replicas::lies_below;
-use crate::world::{Demand, World};
 use span_base::{CENTRES, DcId, DcSet, Hop, Near, Policy, Quorum, SetId};
+use workload::{Demand, World};
 
 /// Whether each primary is one of the first `n` centres.
 fn primaries_below(n: u8, primary: &[Near]) -> bool

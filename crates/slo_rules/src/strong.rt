@@ -2,13 +2,13 @@
 ghost use Rattle.std.specs.Prelude.{◌≡◌, ◌<◌, length};
 ghost use Rattle.std.specs.List.{list_all};
 ghost use Rattle.span_base.specs.DcSet.{centres_of};
-ghost use Rattle.slo_rules.specs.World.{rule_of};
+ghost use Rattle.workload.specs.World.{rule_of};
 ghost use Rattle.slo_rules.specs.Rules.{is_read_near, is_write_near, first_breach, or_else, unless, same_list, union_of, breach_of_read_set, breach_of_write_set, meets, breach_of_meeting, breach_of_write_meeting};
 
 use crate::near::{is_read_near, is_write_near};
 use crate::rules::Rule;
-use crate::world::{SetRule, World};
 use span_base::{CENTRES, DcId, DcSet, Quorum, SetId};
+use workload::{SetRule, World};
 
 /// All centres of the quorums.
 fn union_of(quorums: &[Quorum]) -> DcSet

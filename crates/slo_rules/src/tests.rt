@@ -1,149 +1,98 @@
 //! Costs and faults of small worlds, by the program.
-ghost use Rattle.std.specs.Prelude.{◌≡◌};
-ghost use Rattle.std.specs.List.{list_all};
-ghost use Rattle.slo_rules.specs.Complete.{is_price_within, is_fare_within, is_rule_within, is_demand_within, is_set_within, is_complete};
+ghost use Rattle.std.specs.Prelude.{IfOk};
+ghost use Rattle.span_base.specs.Name.{IsName};
 
-use crate::world::{AccessSet, Centre, DcPrice, Demand, Fare, Mode, SetRule, World};
 use crate::{Rule, cost, fault_of, fits};
-use span_base::{DcId, DcSet, Listed, Near, Policy, SetId, Word};
+use price_tables::{DcPrice, Fare, Tables};
+use span_base::{DcId, DcSet, Listed, Near, Policy, SetId, Word, read_name};
 use std::alloc::{AllocError, Global};
 use std::test::Fail;
+use workload::{Demand, Mode, SetRule, Workload, World};
 
 const MONEY: u64 = 1_000_000_000;
 
-const TIME: u32 = 1_000_000;
-
-fn is_rule_within(rule: &SetRule) -> bool
-    ensures { result ≡ is_rule_within rule.now }
+fn name(alloc: Global, text: &str) -> Result<Word, Fail>
+    ensures { IfOk result IsName }
 {
-    rule.f <= 3
-        && rule.read_slo <= TIME
-        && rule.write_slo <= TIME
-        && rule.stored <= 1_000_000_000_000
-        && rule.object <= 100_000
-        && 1 <= rule.providers
-        && rule.providers <= 16
+    let name = Word::from_string(String::from_str(alloc, text)?);
+    read_name(name.as_bytes())?;
+    Ok(name)
 }
 
-fn is_demand_within(centres: usize, m: &Demand) -> bool
-    ensures { result ≡ is_demand_within centres m.now }
-{
-    usize::from(m.dc.0) < centres && m.gets <= MONEY && m.puts <= MONEY
-}
-
-fn are_demands_within(centres: usize, members: &[Demand]) -> bool
-    ensures { result ≡ list_all (is_demand_within centres) members.now }
-{
-    members.iter().all(|m| is_demand_within(centres, m))
-}
-
-fn is_set_within(centres: usize, set: &AccessSet) -> bool
-    ensures { result ≡ is_set_within centres set.now }
-{
-    let members = set.members.as_slice();
-    is_rule_within(&set.rule)
-        && 1 <= members.len()
-        && members.len() <= 8
-        && are_demands_within(centres, members)
-}
-
-fn are_sets_within(centres: usize, sets: &[AccessSet]) -> bool
-    ensures { result ≡ list_all (is_set_within centres) sets.now }
-{
-    sets.iter().all(|set| is_set_within(centres, set))
-}
-
-fn are_prices_within(centres: &[Centre]) -> bool
-    ensures { result ≡ list_all (λ c. is_price_within c.price) centres.now }
-{
-    centres.iter().all(|c| c.price.store <= MONEY && c.price.get <= MONEY && c.price.put <= MONEY)
-}
-
-fn are_fares_within(fares: &[Fare]) -> bool
-    ensures { result ≡ list_all is_fare_within fares.now }
-{
-    fares
-        .iter()
-        .all(|fare| fare.transfer <= MONEY && fare.latency <= TIME)
-}
-
-fn is_complete(centres: &[Centre], fares: &[Fare], sets: &[AccessSet]) -> bool
-    ensures { result ≡ is_complete (record { centres = centres.now; fares = fares.now; sets = sets.now }) }
-{
-    let n = centres.len();
-    n <= 16
-        && sets.len() <= 1000
-        && fares.len() == n * n
-        && are_prices_within(centres)
-        && are_fares_within(fares)
-        && are_sets_within(n, sets)
-}
-
-/// The world of these lists, where they are within the limits.
-fn world_of(centres: Vec<Centre>, fares: Vec<Fare>, sets: Vec<AccessSet>) -> Option<World> {
-    if is_complete(&centres, &fares, &sets) {
-        Some(World::new(centres, fares, sets))
-    } else {
-        None
-    }
-}
-
-fn word(alloc: Global, text: &str) -> Result<Word, AllocError> {
-    Ok(Word::from_string(String::from_str(alloc, text)?))
-}
-
-fn set_of(
+fn add_centre(
     alloc: Global,
-    rule: SetRule,
-    gets: u64,
-    puts: u64,
-) -> Result<Vec<AccessSet>, AllocError> {
+    tables: &mut Tables,
+    centre: &str,
+    provider: &str,
+    price: DcPrice,
+) -> Result<(), Fail> {
+    tables.add_dc(alloc, &name(alloc, centre)?, &name(alloc, provider)?, price)?;
+    Ok(())
+}
+
+/// Adds links, each from a centre to another with the price of a KiB and the round trip.
+fn add_links(
+    alloc: Global,
+    tables: &mut Tables,
+    links: &[(&str, &str, u64, u32)],
+) -> Result<(), Fail> {
+    for (from, to, transfer, latency) in links {
+        let fare = Fare {
+            transfer: *transfer,
+            latency: *latency,
+        };
+        tables.add_link(&name(alloc, from)?, &name(alloc, to)?, fare)?;
+    }
+    Ok(())
+}
+
+/// A dear centre, and a cheap one 20 ms away.
+fn dear_and_cheap(alloc: Global) -> Result<Tables, Fail> {
+    let mut tables = Tables::make(alloc)?;
+    let dear = DcPrice {
+        store: 10,
+        get: 5,
+        put: 7,
+    };
+    add_centre(alloc, &mut tables, "x", "north", dear)?;
+    let cheap = DcPrice { store: 1, ..dear };
+    add_centre(alloc, &mut tables, "y", "south", cheap)?;
+    let links = [
+        ("x", "x", 0, 1),
+        ("x", "y", 3, 20),
+        ("y", "x", 3, 20),
+        ("y", "y", 0, 1),
+    ];
+    add_links(alloc, &mut tables, &links)?;
+    Ok(tables)
+}
+
+/// One set with one member, in the first centre.
+fn one_set(alloc: Global, rule: SetRule, gets: u64, puts: u64) -> Result<Workload, Fail> {
+    if rule.providers == 0 {
+        return Err(Fail::new("no provider"));
+    }
+    let set = name(alloc, "s")?;
     let member = Demand {
         dc: DcId(0),
         gets,
         puts,
     };
-    let set = AccessSet {
-        name: word(alloc, "s")?,
-        rule,
-        members: Listed::from_vec(vec![in alloc; member]?),
-    };
-    Ok(vec![in alloc; set]?)
+    let mut load = Workload::make(alloc);
+    load.add_set(alloc, &set, rule)?;
+    load.add_demand(&set, member)?;
+    Ok(load)
+}
+
+fn world_of(tables: Tables, load: Workload) -> Result<World, Fail> {
+    if !load.are_in_centres(tables.count()) {
+        return Err(Fail::new("a member in no centre"));
+    }
+    Ok(World::make(tables, load)?)
 }
 
 /// A dear centre with the one member, and a cheap one 20 ms away.
-fn two_centres(
-    alloc: Global,
-    f: u8,
-    goals: u32,
-    providers: u8,
-) -> Result<Option<World>, AllocError> {
-    let near = Fare {
-        transfer: 0,
-        latency: 1,
-    };
-    let far = Fare {
-        transfer: 3,
-        latency: 20,
-    };
-    let dear = Centre {
-        name: word(alloc, "x")?,
-        provider: word(alloc, "north")?,
-        price: DcPrice {
-            store: 10,
-            get: 5,
-            put: 7,
-        },
-    };
-    let cheap = Centre {
-        name: word(alloc, "y")?,
-        provider: word(alloc, "south")?,
-        price: DcPrice {
-            store: 1,
-            get: 5,
-            put: 7,
-        },
-    };
+fn two_centres(alloc: Global, f: u8, goals: u32, providers: u8) -> Result<World, Fail> {
     let rule = SetRule {
         mode: Mode::Direct,
         f,
@@ -153,11 +102,29 @@ fn two_centres(
         object: 2,
         providers,
     };
-    Ok(world_of(
-        vec![in alloc; dear, cheap]?,
-        vec![in alloc; near, far, far, near]?,
-        set_of(alloc, rule, 10, 4)?,
-    ))
+    world_of(dear_and_cheap(alloc)?, one_set(alloc, rule, 10, 4)?)
+}
+
+/// One centre and one set, every number of which is the largest.
+fn largest(alloc: Global) -> Result<World, Fail> {
+    let price = DcPrice {
+        store: MONEY,
+        get: MONEY,
+        put: MONEY,
+    };
+    let rule = SetRule {
+        mode: Mode::Direct,
+        f: 0,
+        read_slo: 10,
+        write_slo: 10,
+        stored: 1_000_000_000_000,
+        object: 100_000,
+        providers: 1,
+    };
+    let mut tables = Tables::make(alloc)?;
+    add_centre(alloc, &mut tables, "x", "north", price)?;
+    add_links(alloc, &mut tables, &[("x", "x", MONEY, 1)])?;
+    world_of(tables, one_set(alloc, rule, MONEY, MONEY)?)
 }
 
 /// A direct policy whose replicas have these bits, with the primary of the one member.
@@ -175,8 +142,8 @@ fn direct(alloc: Global, f: u8, bits: u16, at: u8) -> Result<Policy, AllocError>
 
 #[test]
 fn costs_of_two_centres(rt: HostRuntime) -> Result<(), Fail> {
-    let world = two_centres(rt.alloc(), 0, 30, 1)?.ok_or("no world")?;
-    assert!(rt; 0 < world.set_count());
+    let world = two_centres(rt.alloc(), 0, 30, 1)?;
+    assert!(rt; 0 < world.sets());
     for (bits, at, want) in [(1, 0, 1078), (2, 1, 262), (3, 0, 1230)] {
         let policy = direct(rt.alloc(), 0, bits, at)?;
         assert_eq!(rt; fault_of(&world, SetId(0), &policy), None);
@@ -198,8 +165,8 @@ fn faults_of_two_centres(rt: HostRuntime) -> Result<(), Fail> {
         (0, 30, 2, 0, 1, 0, Rule::Providers),
     ];
     for (f, goals, providers, stands, bits, at, broken) in cases {
-        let world = two_centres(rt.alloc(), f, goals, providers)?.ok_or("no world")?;
-        assert!(rt; 0 < world.set_count());
+        let world = two_centres(rt.alloc(), f, goals, providers)?;
+        assert!(rt; 0 < world.sets());
         let policy = direct(rt.alloc(), stands, bits, at)?;
         assert_eq!(rt; fault_of(&world, SetId(0), &policy), Some(broken));
     }
@@ -208,33 +175,9 @@ fn faults_of_two_centres(rt: HostRuntime) -> Result<(), Fail> {
 
 #[test]
 fn cost_of_the_largest_numbers(rt: HostRuntime) -> Result<(), Fail> {
-    let alloc = rt.alloc();
-    let centre = Centre {
-        name: word(alloc, "x")?,
-        provider: word(alloc, "north")?,
-        price: DcPrice {
-            store: MONEY,
-            get: MONEY,
-            put: MONEY,
-        },
-    };
-    let fare = Fare {
-        transfer: MONEY,
-        latency: 1,
-    };
-    let rule = SetRule {
-        mode: Mode::Direct,
-        f: 0,
-        read_slo: 10,
-        write_slo: 10,
-        stored: 1_000_000_000_000,
-        object: 100_000,
-        providers: 1,
-    };
-    let sets = set_of(alloc, rule, MONEY, MONEY)?;
-    let world = world_of(vec![in alloc; centre]?, vec![in alloc; fare]?, sets).ok_or("no world")?;
-    let policy = direct(alloc, 0, 1, 0)?;
-    assert!(rt; 0 < world.set_count());
+    let world = largest(rt.alloc())?;
+    let policy = direct(rt.alloc(), 0, 1, 0)?;
+    assert!(rt; 0 < world.sets());
     assert!(rt; fits(&world, SetId(0), &policy));
     assert_eq!(rt;
         cost(&world, SetId(0), &policy),

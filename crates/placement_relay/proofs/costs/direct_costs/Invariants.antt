@@ -1,6 +1,6 @@
 use Rattle.std.proofs.Common.{◌≡◌, ◌++◌, map, take}
 use Rattle.std.specs.List.{flat_map}
-use Rattle.slo_rules.specs.World.{members_of}
+use Rattle.workload.specs.World.{members_of}
 use Rattle.placement_relay.specs.Direct.{centres, replica_cost, gets_cost}
 use Rattle.placement_relay.proofs.costs.direct_costs.Given as goal
 

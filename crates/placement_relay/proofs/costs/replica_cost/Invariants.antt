@@ -1,6 +1,6 @@
 use Rattle.std.proofs.Common.{◌≡◌, ◌+◌, ◌*◌, ◌^◌, ◌≤◌, take}
 use Rattle.std.specs.List.{sum_by}
-use Rattle.slo_rules.specs.World.{price_of, rule_of, members_of}
+use Rattle.workload.specs.World.{price_of, rule_of, members_of}
 use Rattle.slo_rules.specs.Cost.{put_cost}
 use Rattle.placement_relay.proofs.costs.replica_cost.Given as goal
 

@@ -1,7 +1,7 @@
 use Rattle.std.proofs.Common.{◌≡◌, ◌+◌, ◌*◌, ◌<◌, ◌≤◌, ◌∙◌, true, false, length, sym, ap, arith}
 use Rattle.std.proofs.lemmas.Nat.{mul-le}
 use Rattle.span_base.specs.declared.policy.Near.{Near}
-use Rattle.slo_rules.specs.World.{centre_count, rule_of, members_of}
+use Rattle.workload.specs.World.{centre_count, rule_of, members_of}
 use Rattle.slo_rules.specs.Rules.{is_read_near}
 use Rattle.zero_one.specs.Rows.{bit_of}
 use Rattle.placement_relay.specs.Direct.{h}

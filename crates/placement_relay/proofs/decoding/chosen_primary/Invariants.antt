@@ -1,6 +1,6 @@
 use Rattle.std.proofs.Common.{◌≡◌, ◌-◌}
 use Rattle.std.specs.List.{filter, find, range_with_len}
-use Rattle.slo_rules.specs.World.{centre_count, rule_of}
+use Rattle.workload.specs.World.{centre_count, rule_of}
 use Rattle.slo_rules.specs.Rules.{is_read_near}
 use Rattle.zero_one.specs.Rows.{bit_of}
 use Rattle.placement_relay.specs.Direct.{h, read_near}

@@ -1,6 +1,6 @@
 use Rattle.std.proofs.Common.{◌≡◌, ◌∙◌, ◌≤◌, sym, ap, subst, arith, length}
 use Rattle.span_base.specs.declared.policy.Policy.{Policy}
-use Rattle.slo_rules.specs.World.{rule_of}
+use Rattle.workload.specs.World.{rule_of}
 use Rattle.slo_rules.specs.Rules.{IsAllowed}
 use Rattle.slo_rules.specs.Cost.{policy_cost}
 use Rattle.zero_one.specs.Program.{value_of}

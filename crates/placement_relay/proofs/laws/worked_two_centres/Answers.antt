@@ -1,17 +1,39 @@
 use Rattle.std.proofs.Common.{refl, arith}
-use Rattle.std.specs.Prelude.{codes}
-use Rattle.slo_rules.specs.World.{set_of}
-use Rattle.slo_rules.specs.Examples.{two_centres, centre}
+use Rattle.std.proofs.lemmas.List.Elements.{All-from_recursion}
+use Rattle.price_tables.specs.Limits.{IsPriceWithin, IsFareWithin}
+use Rattle.workload.specs.World.{IsComplete, IsSetWithin, IsDemandWithin, set_of, members_of}
+use Rattle.slo_rules.specs.Examples.{two_centres, fare}
 use Rattle.placement_relay.specs.Direct.{direct_program}
 use Rattle.placement_relay.specs.Placed.{placed, decoded}
-use Rattle.placement_relay.proofs.SmallWorlds.{small_complete, small_direct}
 use Rattle.placement_relay.proofs.laws.worked_two_centres.Goals as goal
 
+set_within : IsSetWithin 2 (set_of two_centres 0)
+set_within = record {
+  rule = record { f = omega arith; read_slo = omega arith; write_slo = omega arith; stored = omega arith; object = omega arith; some_provider = omega arith; providers = omega arith };
+  some_member = omega arith;
+  few_members = omega arith;
+  members = All-from_recursion (IsDemandWithin 2) (members_of two_centres 0) (record { dc = omega arith; counts = record { gets = omega arith; puts = omega arith } }, tt);
+}
+
+near : IsFareWithin (fare 0 1)
+near = record { transfer = omega arith; latency = omega arith }
+
+far : IsFareWithin (fare 3 20)
+far = record { transfer = omega arith; latency = omega arith }
+
+complete : IsComplete two_centres
+complete = record {
+  few_centres = omega arith;
+  few_sets = omega arith;
+  every_fare = refl;
+  prices = All-from_recursion (λ c. IsPriceWithin c.price) two_centres.centres
+      (record { store = omega arith; get = omega arith; put = omega arith }, (record { store = omega arith; get = omega arith; put = omega arith }, tt));
+  fares = All-from_recursion IsFareWithin two_centres.fares (near, (far, (far, (near, tt))));
+  sets = All-from_recursion (IsSetWithin 2) two_centres.sets (set_within, tt);
+}
+
 pub returns-clause-set : goal.returns-clause-set
-returns-clause-set c =
-    let x = centre (codes "x") (codes "north") 10 5 7 in
-    let y = centre (codes "y") (codes "south") 1 5 7 in
-    small_direct x y (set_of two_centres 0) 30 (small_complete x y (set_of two_centres 0) 30 (omega arith) refl refl refl refl) refl
+returns-clause-set c = record { complete = complete; there = omega arith; mode = refl; one_provider = refl }
 
 pub returns-clause-program : goal.returns-clause-program
 unfolding direct_program

@@ -1,6 +1,6 @@
 use Rattle.std.proofs.Common.{◌≡◌}
 use Rattle.std.specs.List.{filter, range_with_len}
-use Rattle.slo_rules.specs.World.{rule_of}
+use Rattle.workload.specs.World.{rule_of}
 use Rattle.slo_rules.specs.Rules.{is_read_near}
 use Rattle.placement_relay.proofs.near.read_near.Given as goal
 

@@ -1,5 +1,5 @@
 use Rattle.std.proofs.Common.{◌≡◌, ◌++◌, map, take}
-use Rattle.slo_rules.specs.World.{members_of}
+use Rattle.workload.specs.World.{members_of}
 use Rattle.placement_relay.specs.Direct.{read_near, has_replicas}
 use Rattle.placement_relay.proofs.rows.push_read_near.Given as goal
 

@@ -2,7 +2,7 @@ use Rattle.std.proofs.Common.{◌≡◌, ◌++◌, ◌<◌, ◌∙◌, sym, ap, 
 use Rattle.std.specs.List.{flat_map}
 use Rattle.std.proofs.lemmas.List.{take_all, append_assoc}
 use Rattle.std.proofs.lemmas.List.FromFn.{length-enumerate_from}
-use Rattle.slo_rules.specs.World.{members_of}
+use Rattle.workload.specs.World.{members_of}
 use Rattle.placement_relay.specs.Direct.{centres, numbered_members, reads_a_replica}
 use Rattle.placement_relay.proofs.Loops.{numbered_pieces_next}
 use Rattle.placement_relay.proofs.MetRows.{nobody}

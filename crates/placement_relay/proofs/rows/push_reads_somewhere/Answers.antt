@@ -1,7 +1,7 @@
 use Rattle.std.proofs.Common.{◌≡◌, ◌++◌, ◌<◌, ◌∙◌, sym, ap, arith, map, length, take, get_or, [], ◌∷◌}
 use Rattle.std.proofs.lemmas.List.{take_all, append_assoc}
 use Rattle.std.proofs.lemmas.List.FromFn.{length-enumerate_from}
-use Rattle.slo_rules.specs.World.{members_of}
+use Rattle.workload.specs.World.{members_of}
 use Rattle.placement_relay.specs.Direct.{numbered_members, reads_somewhere}
 use Rattle.placement_relay.proofs.Loops.{numbered_next}
 use Rattle.placement_relay.proofs.MetRows.{nobody}

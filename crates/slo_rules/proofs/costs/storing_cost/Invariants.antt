@@ -1,7 +1,7 @@
 use Rattle.std.proofs.Common.{◌≡◌, ℕ, ◌+◌, ◌*◌, ◌^◌, ◌≤◌}
 use Rattle.std.specs.List.{sum_by}
 use Rattle.span_base.specs.DcSet.{centres_of}
-use Rattle.slo_rules.specs.World.{price_of}
+use Rattle.workload.specs.World.{price_of}
 use Rattle.slo_rules.specs.Centres.{centres_from}
 use Rattle.slo_rules.proofs.costs.storing_cost.Given as goal
 
