@@ -1,20 +1,14 @@
 -- The leaves of a plain tree close against the best value.
-use Rattle.std.proofs.Common.{◌≡◌, ℕ, zero, suc, ◌<◌, ◌≤◌, ◌+◌, ◌*◌, ◌-◌, Bool, true, false, List, [], ◌∷◌, ◌++◌, length, map, take, Option, Some, None, slice_index, replicate, refl, sym, ap, subst, ◌∙◌, inl, inr, ◌⊎◌, arith, length-append, zero-add}
-use Rattle.std.specs.Prelude.{ℤ, pos, negsuc, ◌+ℤ◌, ◌-ℤ◌, ◌*ℤ◌, ◌<ℤ◌, ◌≤ℤ◌, All, slice_index_or}
+use Rattle.std.proofs.Common.{◌≡◌, ℕ, zero, suc, ◌<◌, ◌+◌, Bool, true, false, List, [], ◌∷◌, ◌++◌, length, Option, sym, subst, ◌⊎◌, arith, length-append, zero-add}
+use Rattle.std.specs.Prelude.{All}
 use Rattle.std.proofs.lemmas.List.Elements.{All-append}
 use Rattle.zero_one.specs.Contents.{Contents}
-use Rattle.zero_one.specs.Rows.{bit_of, fixed_bit}
-use Rattle.zero_one.specs.Program.{IsFeasible, value_of}
 use Rattle.bound_cert.specs.declared.leaves.Leaf.{Leaf}
 use Rattle.bound_cert.specs.declared.leaves.Line.{Line}
 use Rattle.bound_cert.specs.declared.leaves.Line.TheVariants.{Branch, Close}
 use Rattle.bound_cert.specs.declared.leaves.Goal.{Goal}
-use Rattle.bound_cert.specs.declared.leaves.Goal.TheVariants.{Cost, Nothing}
-use Rattle.bound_cert.specs.Leaves.{leaf_bound, LeafFits, reduced_cost, column_part, bound_part, sum_below, least_of}
-use Rattle.bound_cert.specs.Closing.{Closes}
-use Rattle.bound_cert.specs.Trees.{Tree, leaf, branch, Node, nodes_of, lines_of, fix, all_free, IsProof, IsClosed, ClosesAt}
-use Rattle.planner.specs.declared.search.Best.{Best}
-use Rattle.planner.specs.Search.{IsPlainBelow, AddsPlain, SaysFeasible, SaysBroken, NoneBetter, GoesOn, IsAtMost, goal_of_best}
+use Rattle.bound_cert.specs.Trees.{Tree, leaf, branch, Node, nodes_of, fix, IsProof, IsClosed, ClosesAt}
+use Rattle.planner.specs.Search.{IsPlainBelow, AddsPlain, SaysFeasible, SaysBroken}
 use Rattle.planner.proofs.WellFormed.{fixed_by, fix_behind, plain_is_tree}
 
 -- every leaf that a plain tree may end a whole path with closes against the goal

@@ -1,25 +1,23 @@
 -- The leaves of a plain tree close: `l 1` at a feasible assignment, and a broken row at any other.
-use Rattle.std.proofs.Common.{◌≡◌, ℕ, zero, suc, ◌<◌, ◌≤◌, ◌+◌, ◌*◌, Bool, true, false, List, [], ◌∷◌, ◌++◌, length, map, Option, Some, None, replicate, refl, sym, ap, subst, ◌∙◌, inl, inr, ◌⊎◌, arith}
-use Rattle.std.specs.Prelude.{ℤ, pos, ◌+ℤ◌, ◌-ℤ◌, ◌*ℤ◌, ◌<ℤ◌, ◌≤ℤ◌}
+use Rattle.std.proofs.Common.{◌≡◌, ℕ, zero, suc, ◌<◌, ◌≤◌, Bool, true, false, List, [], ◌∷◌, length, Option, Some, None, refl, sym, subst, ◌∙◌, inl, inr, arith}
+use Rattle.std.specs.Prelude.{ℤ, pos, ◌<ℤ◌, ◌≤ℤ◌}
 use Rattle.std.specs.List.{All}
 use Rattle.std.specs.Int.Signed.{lt_z, lt_z_yes, lt_z_no}
 use Rattle.std.proofs.lemmas.Int.{ints}
 use Rattle.bound_cert.specs.declared.leaves.TheConstants.{MAX_MULTIPLIER}
 use Rattle.zero_one.specs.Contents.{Contents}
 use Rattle.zero_one.specs.Rows.{bit_of, fixed_bit, row_sum, Meets}
-use Rattle.zero_one.specs.Program.{IsFeasible, IsWithinLimits, value_of}
+use Rattle.zero_one.specs.Program.{IsWithinLimits, value_of}
 use Rattle.bound_cert.specs.declared.leaves.Pair.{Pair}
 use Rattle.bound_cert.specs.declared.leaves.Leaf.{Leaf}
 use Rattle.bound_cert.specs.declared.leaves.Line.{Line}
 use Rattle.bound_cert.specs.declared.leaves.Line.TheVariants.{Close}
-use Rattle.bound_cert.specs.declared.leaves.Goal.{Goal}
-use Rattle.bound_cert.specs.declared.leaves.Goal.TheVariants.{Cost, Nothing}
-use Rattle.bound_cert.specs.Leaves.{leaf_bound, LeafFits, row_at, bound_part}
+use Rattle.bound_cert.specs.Leaves.{leaf_bound, LeafFits, row_at}
 use Rattle.bound_cert.specs.Closing.{Closes}
 use Rattle.bound_cert.specs.Trees.{ClosesAt, IsProof}
 use Rattle.bound_cert.proofs.Duality.{leaf_bound_whole}
 use Rattle.planner.specs.declared.search.Best.{Best}
-use Rattle.planner.specs.Search.{SaysFeasible, SaysBroken, AddsPlain, NoneBetter, IsAtMost, goal_of_best}
+use Rattle.planner.specs.Search.{AddsPlain, NoneBetter, IsAtMost, goal_of_best}
 use Rattle.planner.proofs.WellFormed.{fixed_by}
 use Rattle.planner.proofs.Closing.{EndsClose, plain_is_proof}
 

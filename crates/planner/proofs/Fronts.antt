@@ -1,8 +1,8 @@
 -- What a sink has taken of a plan.
-use Rattle.std.proofs.Common.{◌≡◌, ℕ, List, ◌++◌, length, take, drop, Option, subst, sym, ◌∙◌}
+use Rattle.std.proofs.Common.{◌≡◌, ℕ, List, take, drop, Option, subst, sym, ◌∙◌}
 use Rattle.std.proofs.lemmas.List.{take-append-drop}
-use Rattle.span_base.specs.Taken.{Appends, AppendsFront}
-use Rattle.slo_rules.specs.World.{Lists}
+use Rattle.span_base.specs.Taken.{AppendsFront}
+use Rattle.workload.specs.World.{Lists}
 use Rattle.planner.specs.Plans.{IsAcceptedPlan, IsPlanFront}
 use Rattle.planner.specs.Writes.{TakesText, IsPlanText}
 use Rattle.planner.specs.declared.plan.PlanEnd.{PlanEnd}

@@ -1,23 +1,23 @@
 -- What a search of a set's program says of the set.
-use Rattle.std.proofs.Common.{◌≡◌, ℕ, ◌<◌, ◌≤◌, Bool, true, false, List, [], ◌∷◌, ◌++◌, length, Option, Some, None, refl, sym, ap, subst, ◌∙◌, append_assoc, arith}
+use Rattle.std.proofs.Common.{◌≡◌, ℕ, ◌≤◌, Bool, true, false, List, [], ◌++◌, length, Option, Some, None, refl, sym, ap, subst, ◌∙◌, append_assoc, arith}
 use Rattle.std.specs.Prelude.{codes}
 use Rattle.span_base.specs.declared.policy.Policy.{Policy}
 use Rattle.zero_one.specs.Contents.{Contents}
 use Rattle.zero_one.specs.Program.{IsFeasible, value_of}
 use Rattle.bound_cert.specs.declared.leaves.Line.{Line}
 use Rattle.bound_cert.specs.Trees.{IsProof}
-use Rattle.slo_rules.specs.World.{Lists}
+use Rattle.workload.specs.World.{Lists}
 use Rattle.slo_rules.specs.Rules.{IsAllowed}
-use Rattle.slo_rules.specs.Cost.{policy_cost, IsLeast, HasNoPolicy}
+use Rattle.slo_rules.specs.Cost.{policy_cost, IsLeast}
 use Rattle.placement_relay.specs.Direct.{direct_program, direct_costs}
 use Rattle.placement_relay.specs.Placed.{placed, decoded}
 use Rattle.placement_relay.specs.Laws.{IsDirectSet, IsPlaced, IsLeastChoice}
 use Rattle.placement_relay.proofs.DirectSets.{placing, least, none}
 use Rattle.planner.specs.declared.search.Best.{Best}
-use Rattle.planner.specs.Parts.{Part, complete, none_allowed}
+use Rattle.planner.specs.Parts.{complete, none_allowed}
 use Rattle.planner.specs.PolicyText.{policy_text}
 use Rattle.planner.specs.PlanText.{set_line, tree_text, cost_line}
-use Rattle.planner.specs.Search.{IsSound, NoneBetter, IsAtMost, goal_of_best}
+use Rattle.planner.specs.Search.{IsSound, NoneBetter, goal_of_best}
 use Rattle.planner.specs.Writes.{AddsPart, IsServedSet}
 use Rattle.planner.specs.declared.plan.TheConstants.{MOST_VARIABLES}
 

@@ -1,12 +1,12 @@
 -- A plan grows part by part.
-use Rattle.std.proofs.Common.{◌≡◌, ℕ, zero, suc, ◌+◌, ◌<◌, Bool, true, false, List, [], ◌∷◌, ◌++◌, length, slice_get, Some, None, refl, sym, ap, subst, ◌∙◌, append_assoc, append-nil, length-append, arith}
+use Rattle.std.proofs.Common.{◌≡◌, ℕ, zero, suc, ◌+◌, ◌<◌, Bool, true, false, List, [], ◌∷◌, ◌++◌, length, slice_get, Some, refl, sym, ap, subst, ◌∙◌, append_assoc, append-nil, length-append, arith}
 use Rattle.std.specs.Prelude.{codes, if◌then◌else◌}
 use Rattle.std.proofs.lemmas.Option.{slice_get_within}
 use Rattle.span_base.specs.declared.ids.SetId.{SetId}
-use Rattle.slo_rules.specs.World.{Lists}
+use Rattle.workload.specs.World.{Lists}
 use Rattle.planner.specs.Parts.{Part, completes}
-use Rattle.planner.specs.PlanText.{part_text, parts_text, plan_text}
-use Rattle.planner.specs.Plans.{EachPart, IsAcceptedPart, IsTrueOf, HasParts, IsLeastPlan, IsPlanWithout}
+use Rattle.planner.specs.PlanText.{part_text, parts_text}
+use Rattle.planner.specs.Plans.{EachPart, IsAcceptedPart, IsTrueOf, HasParts}
 use Rattle.planner.specs.Writes.{AddsPart, IsPlanText, first_end}
 use Rattle.planner.specs.declared.plan.PlanEnd.{PlanEnd}
 use Rattle.planner.specs.declared.plan.PlanEnd.TheVariants.{Complete, NoPolicy}

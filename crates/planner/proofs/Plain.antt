@@ -1,5 +1,5 @@
 -- Lemmas on plain trees: what a leaf and a branch add, and which assignments they cover.
-use Rattle.std.proofs.Common.{◌≡◌, ℕ, ◌<◌, ◌≤◌, ◌+◌, Bool, true, false, List, [], ◌∷◌, ◌++◌, length, take, Option, Some, None, slice_get, refl, sym, ap, subst, ◌∙◌, inl, inr, arith, append_assoc, length-append, get_or}
+use Rattle.std.proofs.Common.{◌≡◌, ℕ, ◌<◌, ◌+◌, Bool, true, false, List, [], ◌∷◌, ◌++◌, length, take, Option, Some, None, refl, sym, ap, subst, ◌∙◌, inl, inr, arith, append_assoc, length-append, get_or}
 use Rattle.std.proofs.lemmas.List.{take_more}
 use Rattle.std.proofs.Math.Seq.{take-length}
 use Rattle.std.proofs.lemmas.Option.{get_or_from_slice_get, slice_get_within}
@@ -12,9 +12,9 @@ use Rattle.bound_cert.specs.declared.leaves.Leaf.{Leaf}
 use Rattle.bound_cert.specs.declared.leaves.Line.{Line}
 use Rattle.bound_cert.specs.declared.leaves.Line.TheVariants.{Branch, Close}
 use Rattle.bound_cert.specs.Leaves.{row_at}
-use Rattle.bound_cert.specs.Trees.{Tree, leaf, branch, lines_of}
+use Rattle.bound_cert.specs.Trees.{leaf, branch, lines_of}
 use Rattle.planner.specs.declared.search.Best.{Best}
-use Rattle.planner.specs.Search.{SaysFeasible, SaysBroken, IsPlainBelow, AddsPlain, GoesOn, IsAtMost, IsBetter, NoneBetter, StaysGood}
+use Rattle.planner.specs.Search.{AddsPlain, GoesOn, IsAtMost, IsBetter, NoneBetter, StaysGood}
 
 -- an assignment that goes on from a whole path is the path
 pub goes_on_whole : (path x : List Bool) → length x ≡ length path → GoesOn path x → x ≡ path

@@ -1,14 +1,13 @@
 -- What an allowed policy of a direct set names is there to be named.
-use Rattle.std.proofs.Common.{◌≡◌, ℕ, ◌<◌, ◌≤◌, Bool, true, false, ◌&&◌, List, [], ◌∷◌, length, refl, subst, sym, arith}
-use Rattle.std.specs.Prelude.{◌==◌}
+use Rattle.std.proofs.Common.{◌≡◌, ℕ, ◌<◌, Bool, true, false, ◌&&◌, List, [], ◌∷◌, refl, subst, sym}
 use Rattle.std.specs.List.{All, AllZip}
 use Rattle.std.proofs.lemmas.List.Elements.{All-head, All-tail, All-cons, All-nil}
 use Rattle.span_base.specs.declared.dc_set.DcSet.{DcSet}
 use Rattle.span_base.specs.declared.policy.Policy.TheVariants.{Direct}
 use Rattle.span_base.specs.declared.policy.Near.{Near}
-use Rattle.slo_rules.specs.World.{Lists, centre_count, rule_of, members_of, IsDemandWithin}
-use Rattle.slo_rules.specs.declared.world.Demand.{Demand}
-use Rattle.slo_rules.specs.declared.world.SetRule.{SetRule}
+use Rattle.workload.specs.World.{Lists, centre_count, rule_of, members_of, IsDemandWithin}
+use Rattle.workload.specs.declared.rules.Demand.{Demand}
+use Rattle.workload.specs.declared.rules.SetRule.{SetRule}
 use Rattle.slo_rules.specs.declared.rules.Rule.TheVariants as rule
 use Rattle.slo_rules.specs.Rules.{or_else, unless, has_mode, has_shape, lies_below, primaries_below, same_list, primary_members, centres_asking, breach_of_mode, breach_of_providers, first_broken_rule, IsAllowed}
 use Rattle.placement_relay.specs.Laws.{IsDirectSet}

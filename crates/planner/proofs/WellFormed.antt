@@ -1,6 +1,5 @@
 -- A plain tree is well formed: it branches on free variables alone.
-use Rattle.std.proofs.Common.{◌≡◌, ℕ, zero, suc, ◌<◌, ◌+◌, Bool, true, false, List, [], ◌∷◌, ◌++◌, length, map, Option, Some, None, slice_get, slice_set, replicate, refl, sym, ap, subst, ◌∙◌, arith, append_assoc, length-append}
-use Rattle.std.proofs.Math.Seq.{set-append_seam}
+use Rattle.std.proofs.Common.{◌≡◌, ℕ, zero, suc, ◌<◌, ◌+◌, Bool, true, false, List, [], ◌∷◌, ◌++◌, length, map, Option, Some, None, replicate, refl, sym, ap, subst, arith, length-append}
 use Rattle.zero_one.specs.Contents.{Contents}
 use Rattle.bound_cert.specs.Trees.{Tree, leaf, branch, IsFree, IsTreeBelow, fix}
 use Rattle.planner.specs.Search.{IsPlainBelow}

@@ -4,18 +4,11 @@ use Rattle.std.specs.Fmt.{decimal}
 use Rattle.bound_cert.specs.declared.leaves.Line.{Line}
 use Rattle.bound_cert.specs.Text.{line_text}
 use Rattle.zero_one.specs.Contents.{Contents}
-use Rattle.slo_rules.specs.World.{Lists, set_of, rule_of}
-use Rattle.slo_rules.specs.declared.world.Mode.{Mode}
-use Rattle.slo_rules.specs.declared.world.Mode.TheVariants as mode
+use Rattle.workload.specs.World.{Lists, set_of, rule_of}
+use Rattle.workload.specs.Modes.{word_of}
 use Rattle.placement_relay.specs.Direct.{direct_program}
 use Rattle.planner.specs.Parts.{Ending, complete, none_allowed, Part}
 use Rattle.planner.specs.PolicyText.{policy_text}
-
--- the word of a mode
-abbrev pub word_of : Mode → List ℕ
-word_of mode.Direct = codes "direct"
-word_of mode.Relay = codes "relay"
-word_of mode.Strong = codes "strong"
 
 -- the 0-1 program of a direct set
 abbrev pub program_of : Lists → ℕ → Contents

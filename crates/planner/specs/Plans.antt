@@ -1,9 +1,8 @@
-use Rattle.std.specs.Prelude.{◌≡◌, ℕ, ◌<◌, ◌++◌, List, length, Option, Some, slice_get, true, false}
-use Rattle.span_base.specs.declared.policy.Policy.{Policy}
+use Rattle.std.specs.Prelude.{◌≡◌, ℕ, ◌<◌, ◌++◌, List, length, Some, slice_get, true, false}
 use Rattle.bound_cert.specs.declared.leaves.Goal.{Goal}
 use Rattle.bound_cert.specs.declared.leaves.Goal.TheVariants.{Cost, Nothing}
 use Rattle.bound_cert.specs.Trees.{IsProof}
-use Rattle.slo_rules.specs.World.{Lists}
+use Rattle.workload.specs.World.{Lists}
 use Rattle.slo_rules.specs.Rules.{IsAllowed}
 use Rattle.slo_rules.specs.Cost.{policy_cost, IsLeast, HasNoPolicy}
 use Rattle.planner.specs.Parts.{Ending, complete, none_allowed, Part, completes}

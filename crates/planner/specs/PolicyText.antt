@@ -7,11 +7,7 @@ use Rattle.span_base.specs.declared.policy.Policy.TheVariants.{Direct, Relay, St
 use Rattle.span_base.specs.declared.policy.Near.{Near}
 use Rattle.span_base.specs.declared.policy.Hop.{Hop}
 use Rattle.span_base.specs.declared.policy.Quorum.{Quorum}
-use Rattle.slo_rules.specs.World.{Lists, centre_of}
-
--- the name of a centre
-abbrev pub name_of : Lists → ℕ → List ℕ
-name_of w dc = (centre_of w dc).name
+use Rattle.workload.specs.World.{Lists, name_of}
 
 -- the names of a set's centres, in world order, each behind a space
 abbrev pub names_text : Lists → DcSet → List ℕ

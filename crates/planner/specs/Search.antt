@@ -1,5 +1,5 @@
 -- A plain search: a tree that branches on every variable, in order.
-use Rattle.std.specs.Prelude.{◌≡◌, ℕ, ◌+◌, ◌<◌, ◌≤◌, ◌⊎◌, Bool, true, false, List, [], ◌∷◌, ◌++◌, length, take, Option, Some, None}
+use Rattle.std.specs.Prelude.{◌≡◌, ℕ, ◌<◌, ◌≤◌, ◌⊎◌, Bool, true, false, List, [], ◌∷◌, ◌++◌, length, take, Option, Some, None}
 use Rattle.zero_one.specs.Contents.{Contents}
 use Rattle.zero_one.specs.Rows.{Meets}
 use Rattle.zero_one.specs.Program.{IsFeasible, value_of}

@@ -2,7 +2,7 @@
 use Rattle.std.specs.Prelude.{◌≡◌, ℕ, ◌<◌, ◌≤◌, ◌⊎◌, ◌++◌, Bool, List, length, Option, Result, Ok, Err}
 use Rattle.span_base.specs.Taken.{Appends}
 use Rattle.span_base.specs.declared.ids.SetId.{SetId}
-use Rattle.slo_rules.specs.World.{Lists}
+use Rattle.workload.specs.World.{Lists}
 use Rattle.placement_relay.specs.Direct.{direct_costs}
 use Rattle.placement_relay.specs.Laws.{IsDirectSet}
 use Rattle.planner.specs.Parts.{Part, completes}

@@ -1,5 +1,5 @@
 ghost use Rattle.std.specs.Prelude.{◌≡◌, ◌++◌, ◌<◌, true, OnOk, IfOk, length, string_bytes};
-ghost use Rattle.slo_rules.specs.World.{centre_count};
+ghost use Rattle.workload.specs.World.{centre_count};
 ghost use Rattle.slo_rules.specs.Rules.{IsAllowed};
 ghost use Rattle.planner.specs.PolicyText.{policy_text};
 ghost use Rattle.placement_relay.specs.Laws.{IsDirectSet};
@@ -8,9 +8,9 @@ ghost use Rattle.planner.specs.Writes.{IsServedSet, AddsPart};
 use crate::search::{Found, search};
 use crate::text::{write_cost, write_primaries, write_replicas, write_set, write_tree};
 use placement_relay::{decode, encode, least_choices_are_least_policies, no_choice_is_no_policy};
-use slo_rules::World;
 use span_base::{Policy, SetId};
 use std::alloc::{AllocError, Global};
+use workload::World;
 
 /// Adds the part of a set, and answers whether the set has a policy.
 pub fn write_part(

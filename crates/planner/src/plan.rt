@@ -1,11 +1,12 @@
-ghost use Rattle.std.specs.Prelude.{◌≡◌, ◌≤◌, if◌then◌else◌, IfOk, IsErrOf, string_bytes};
+ghost use Rattle.std.specs.Prelude.{◌≡◌, ◌<◌, ◌≤◌, ◌↔◌, if◌then◌else◌, IfOk, IsErrOf, IsTrue, length, string_bytes};
 ghost use Rattle.span_base.specs.Counts.{Rose};
-ghost use Rattle.planner.specs.Writes.{IsServed, IsPlanText, PlanWrites, first_end};
+ghost use Rattle.planner.specs.Writes.{IsServed, IsServedSet, IsPlanText, PlanWrites, first_end};
 
 use crate::part::write_part;
-use slo_rules::World;
+use placement_relay::{is_direct_set, variable_count};
 use span_base::{DeviceFault, SetId, Sink, write_all};
 use std::alloc::{AllocError, Global};
+use workload::World;
 
 /// The greatest number of variables of a program that is searched whole.
 pub const MOST_VARIABLES: usize = 12;
@@ -33,6 +34,26 @@ struct Plan {
     end: PlanEnd,
 }
 
+/// Whether `plan_all` serves a world: each set is direct, asks for one provider, and has at most
+/// 12 variables.
+pub fn is_served(world: &World) -> bool
+    ensures { IsTrue result ↔ IsServed world.now }
+{
+    for set in 0..world.sets() {
+        if !is_served_set(world, SetId(set)) {
+            return false;
+        }
+    }
+    true
+}
+
+fn is_served_set(world: &World, set: SetId) -> bool
+    requires { set.0 < length world.now.sets }
+    ensures { IsTrue result ↔ IsServedSet world.now set.0 }
+{
+    is_direct_set(world, set) && variable_count(world, set) <= MOST_VARIABLES
+}
+
 /// Plans every set of a world, in order, and writes the plan.
 pub fn plan_all<K: Sink>(alloc: Global, world: &World, out: &mut K) -> Result<PlanEnd, PlanFault>
     requires { IsServed world.now }
@@ -58,7 +79,7 @@ fn plan_text(alloc: Global, world: &World) -> Result<Plan, AllocError>
     let mut text = String::new(alloc);
     write!(text, "span-plan 1\n")?;
     let mut end = PlanEnd::Complete;
-    for number in 0..world.set_count() {
+    for number in 0..world.sets() {
         let set = SetId(number);
         let is_complete = write_part(alloc, &mut text, world, set)?;
         end = end_with(end, set, is_complete);

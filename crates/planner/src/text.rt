@@ -1,25 +1,14 @@
 ghost use Rattle.std.specs.Prelude.{◌≡◌, ◌++◌, ◌<◌, length, true, All, OnOk, string_bytes};
 ghost use Rattle.std.specs.List.{flat_map};
-ghost use Rattle.slo_rules.specs.World.{centre_count};
+ghost use Rattle.workload.specs.World.{centre_count};
 ghost use Rattle.slo_rules.specs.Rules.{lies_below};
 ghost use Rattle.planner.specs.PolicyText.{names_text, replicas_line, primary_line, IsNearWithin};
-ghost use Rattle.planner.specs.PlanText.{word_of, set_line, tree_line, tree_text, cost_line};
+ghost use Rattle.planner.specs.PlanText.{set_line, tree_line, tree_text, cost_line};
 
 use bound_cert::{Line, push_line};
-use slo_rules::{Mode, World};
 use span_base::{CENTRES, DcId, DcSet, Near, SetId};
 use std::alloc::AllocError;
-
-/// The word of a mode in a plan.
-fn mode_word(mode: Mode) -> &'static str
-    ensures { result.now ≡ word_of mode }
-{
-    match mode {
-        Mode::Direct => "direct",
-        Mode::Relay => "relay",
-        Mode::Strong => "strong",
-    }
-}
+use workload::World;
 
 /// Adds the names of a set's centres, each behind a space.
 fn write_names(text: &mut String, world: &World, set: DcSet) -> Result<(), AllocError>
@@ -68,7 +57,8 @@ pub fn write_set(
     ensures { OnOk result (string_bytes text.new ≡ string_bytes text.old ++ set_line world.now set.0 variables) }
 {
     let name = world.set_name(set).as_str();
-    let mode = mode_word(world.rule(set).mode);
+    let rule = world.rule(set);
+    let mode = rule.mode.word();
     write!(text, "set {name} {mode} {variables}\n")
 }
 

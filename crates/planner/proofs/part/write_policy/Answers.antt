@@ -1,8 +1,8 @@
-use Rattle.std.proofs.Common.{◌≡◌, List, subst, sym}
+use Rattle.std.proofs.Common.{List, subst, sym}
 use Rattle.std.specs.List.{All}
 use Rattle.span_base.specs.declared.policy.Policy.{Policy}
 use Rattle.span_base.specs.declared.policy.Near.{Near}
-use Rattle.slo_rules.specs.World.{centre_count}
+use Rattle.workload.specs.World.{centre_count}
 use Rattle.slo_rules.specs.Rules.{IsAllowed}
 use Rattle.placement_relay.proofs.DirectSets.{only_direct}
 use Rattle.planner.specs.PolicyText.{IsNearWithin}

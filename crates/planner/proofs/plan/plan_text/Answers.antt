@@ -18,10 +18,10 @@ loop-number-preserved c =
 
 pub write_part-requires : goal.write_part-requires
 write_part-requires c =
-    let below : c.loop-number.number < length c.args.world.now.sets = omega (arith, c.loop-number-test.true, c.set_count-number-end.ensures) in
+    let below : c.loop-number.number < length c.args.world.now.sets = omega (arith, c.loop-number-test.true, c.sets-number-end.ensures) in
     c.requires c.loop-number.number below
 
 pub returns : goal.returns
 returns c =
-    let all : c.loop-number.number ≡ length c.args.world.now.sets = omega (arith, c.loop-number-test.false, c.loop-number.auto.number-end, c.set_count-number-end.ensures) in
+    let all : c.loop-number.number ≡ length c.args.world.now.sets = omega (arith, c.loop-number-test.false, c.loop-number.auto.number-end, c.sets-number-end.ensures) in
     rw c.in_ok-write-2.ensures.bytes (so_far_all c.args.world.now c.loop-number.number (string_bytes c.loop-number.text) c.loop-number.end c.loop-number.invariant all)

@@ -1,6 +1,5 @@
-use Rattle.std.proofs.Common.{◌≡◌, ℕ, ◌<◌, Bool, false, true, List, [], ◌∷◌, ◌++◌, ◌∙◌, subst, sym, ap, length, arith}
+use Rattle.std.proofs.Common.{◌≡◌, ℕ, ◌<◌, Bool, true, List, [], ◌∷◌, ◌++◌, ◌∙◌, subst, ap, length, arith}
 use Rattle.std.proofs.lemmas.Grind.{common_steps}
-use Rattle.bound_cert.specs.declared.leaves.Line.{Line}
 use Rattle.bound_cert.specs.declared.leaves.Line.TheVariants.{Branch}
 use Rattle.planner.specs.Search.{AddsPlain, NoneBetter}
 use Rattle.planner.proofs.Plain.{adds_branch, none_better_branch}

@@ -1,4 +1,4 @@
-use Rattle.std.proofs.Common.{◌≡◌, Bool, List, ◌∙◌, subst, ap}
+use Rattle.std.proofs.Common.{Bool, List, ◌∙◌, subst, ap}
 use Rattle.zero_one.specs.Rows.{Meets}
 use Rattle.zero_one.specs.Program.{IsFeasible, value_of}
 use Rattle.zero_one.specs.Faults.{IsFirstBreach}

@@ -1,8 +1,8 @@
 use Rattle.std.proofs.Common.{◌≡◌, ℕ, List, ◌∷◌, ◌++◌, sym, ap, ◌∙◌, string_bytes}
 use Rattle.std.specs.Prelude.{codes}
-use Rattle.slo_rules.specs.World.{centre_count}
+use Rattle.workload.specs.World.{centre_count}
 use Rattle.slo_rules.proofs.ProviderNames.{below-lies_below}
-use Rattle.planner.specs.PolicyText.{name_of, names_text}
+use Rattle.workload.specs.World.{name_of}
 use Rattle.planner.proofs.Texts.{centres_first, centres_with, centres_without, centres_last}
 use Rattle.planner.proofs.text.write_names.Goals as goal
 use Rattle.planner.proofs.text.write_names.Goals.{then-has+in_ok-write, else-has}

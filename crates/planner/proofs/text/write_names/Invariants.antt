@@ -2,7 +2,8 @@ use Rattle.std.proofs.Common.{◌≡◌, ◌++◌, string_bytes}
 use Rattle.std.specs.Prelude.{codes}
 use Rattle.std.specs.List.{flat_map}
 use Rattle.slo_rules.specs.Centres.{centres_from}
-use Rattle.planner.specs.PolicyText.{name_of, names_text}
+use Rattle.workload.specs.World.{name_of}
+use Rattle.planner.specs.PolicyText.{names_text}
 use Rattle.planner.proofs.text.write_names.Given as goal
 
 abbrev pub invariant-loop-d : goal.invariant-loop-d
