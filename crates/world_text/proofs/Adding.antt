@@ -1,9 +1,9 @@
 -- What the tables and the sets refuse is what the record is refused for.
-use Rattle.std.proofs.Common.{◌≡◌, ℕ, ◌+◌, ◌<◌, ◌≤◌, ◌^◌, Bool, true, false, cond, List, [], ◌∷◌, length, Option, Some, None, Result, Ok, Err, refl, sym, ap, ◌∙◌, subst, arith, All, ⊎_elim}
+use Rattle.std.proofs.Common.{◌≡◌, ℕ, ◌+◌, ◌<◌, ◌≤◌, ◌^◌, Bool, true, false, cond, List, [], ◌∷◌, length, Option, Some, None, Result, Ok, Err, refl, sym, ap, ◌∙◌, subst, All, ⊎_elim}
 use Rattle.std.specs.Prelude.{nat_lt, is_some, unwrap_or}
 use Rattle.std.proofs.lemmas.Bool.{le-ltb, cases_lt}
-use Rattle.std.proofs.lemmas.List.{length-append, get_or_past}
-use Rattle.std.proofs.lemmas.List.Elements.{All-append, All-cons, All-nil, All-weaker, All-set, All-get_or}
+use Rattle.std.proofs.lemmas.List.{get_or_past}
+use Rattle.std.proofs.lemmas.List.Elements.{All-append, All-cons, All-nil, All-set, All-get_or}
 use Rattle.span_base.specs.declared.words.What.{What}
 use Rattle.span_base.specs.declared.words.What.TheVariants as what
 use Rattle.span_base.specs.declared.words.Cause.TheVariants as cause
@@ -223,14 +223,6 @@ member_ok ss new name d count gets puts h made low all =
 
         put : All (λ (x : Demand). x.dc.0 < n) (set_at xs s).members → AreInCentres n (with_demand xs s m)
         put h = All-set (λ (set : AccessSet). All (λ (x : Demand). x.dc.0 < n) set.members) xs s (with_member (set_at xs s) m) (All-append (λ (x : Demand). x.dc.0 < n) (set_at xs s).members (m ∷ []) h (All-cons (λ (x : Demand). x.dc.0 < n) m [] low (All-nil (λ (x : Demand). x.dc.0 < n)))) all
-
--- the members stand in one of the centres, with one more centre or one more set too
-pub more_centres : (n m : ℕ) (ss : List AccessSet) → n ≤ m → AreInCentres n ss → AreInCentres m ss
-more_centres n m ss h all = All-weaker (λ (s : AccessSet). All (λ (x : Demand). x.dc.0 < n) s.members) (λ (s : AccessSet). All (λ (x : Demand). x.dc.0 < m) s.members)
-    (λ s inner. All-weaker (λ (x : Demand). x.dc.0 < n) (λ (x : Demand). x.dc.0 < m) (λ x low. omega arith) s.members inner) ss all
-
-pub one_more_centre : (t : Tabled) (c : Centre) (ss : List AccessSet) → AreInCentres (count_of t) ss → AreInCentres (count_of (with_centre t c)) ss
-one_more_centre t c ss all = more_centres (count_of t) (count_of (with_centre t c)) ss (omega (arith, length-append t.centres (c ∷ []))) all
 
 pub one_more_set : (n : ℕ) (ss : List AccessSet) (name : List ℕ) (rule : SetRule) → AreInCentres n ss → AreInCentres n (with_set ss name rule)
 one_more_set n ss name rule all = All-append (λ (s : AccessSet). All (λ (x : Demand). x.dc.0 < n) s.members) ss _ all

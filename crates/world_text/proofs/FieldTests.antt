@@ -1,10 +1,6 @@
--- Tests of a record's fields.
-use Rattle.std.proofs.Common.{◌≡◌, ◌≢◌, ℕ, ◌<◌, ◌≤◌, Bool, true, false, not, Bor, List, [], ◌∷◌, length, map, take, drop, ◌-◌, get_or, arith, refl, sym, ◌∙◌}
-use Rattle.std.proofs.lemmas.Bool.Decides.{Decides-eqb}
+-- The fields of a record, as many as they are.
+use Rattle.std.proofs.Common.{◌≡◌, ℕ, ◌<◌, ◌≤◌, Bor, List, [], ◌∷◌, length, map, take, drop, ◌-◌, get_or, arith, refl}
 use Rattle.std.proofs.lemmas.List.{take_rest, length-map}
-use Rattle.std.proofs.lemmas.Slice.Eq.{slice_eq-Decides}
-use Rattle.std.specs.Prelude.{nat_eq}
-use Rattle.std.specs.Cmp.Lexicographic.{pointwise}
 
 -- what stands for a field past the end
 abbrev pub no_field : Bor (List ℕ)
@@ -17,12 +13,6 @@ abbrev pub texts : List (Bor (List ℕ)) → List (List ℕ)
 texts fs = map (λ f. f.now) fs
 
 -- the fields of a list of so many
-pub two_fields : (fs : List (Bor (List ℕ))) → 2 ≤ length fs → length fs < 3 → texts fs ≡ field fs 0 ∷ field fs 1 ∷ []
-two_fields [] low high = absurd (omega arith)
-two_fields (a ∷ []) low high = absurd (omega arith)
-two_fields (a ∷ b ∷ []) low high = refl
-two_fields (a ∷ b ∷ c ∷ fs) low high = absurd (omega arith)
-
 pub five_fields : (fs : List (Bor (List ℕ))) → 5 ≤ length fs → length fs < 6 → texts fs ≡ field fs 0 ∷ field fs 1 ∷ field fs 2 ∷ field fs 3 ∷ field fs 4 ∷ []
 five_fields [] low high = absurd (omega arith)
 five_fields (a ∷ []) low high = absurd (omega arith)
@@ -31,36 +21,6 @@ five_fields (a ∷ b ∷ c ∷ []) low high = absurd (omega arith)
 five_fields (a ∷ b ∷ c ∷ d ∷ []) low high = absurd (omega arith)
 five_fields (a ∷ b ∷ c ∷ d ∷ e ∷ []) low high = refl
 five_fields (a ∷ b ∷ c ∷ d ∷ e ∷ f ∷ fs) low high = absurd (omega arith)
-
-pub six_fields : (fs : List (Bor (List ℕ))) → 6 ≤ length fs → length fs < 7 → texts fs ≡ field fs 0 ∷ field fs 1 ∷ field fs 2 ∷ field fs 3 ∷ field fs 4 ∷ field fs 5 ∷ []
-six_fields [] low high = absurd (omega arith)
-six_fields (a ∷ fs) low high = let rest = five_fields fs (omega arith) (omega arith) in let e : texts fs ≡ _ = rest in cc
-
-pub three_fields_up : (fs : List (Bor (List ℕ))) → 3 ≤ length fs → texts fs ≡ field fs 0 ∷ field fs 1 ∷ field fs 2 ∷ texts (take (length fs - 3) (drop 3 fs))
-three_fields_up [] low = absurd (omega arith)
-three_fields_up (a ∷ []) low = absurd (omega arith)
-three_fields_up (a ∷ b ∷ []) low = absurd (omega arith)
-three_fields_up (a ∷ b ∷ c ∷ fs) low = let e : take (length (a ∷ b ∷ c ∷ fs) - 3) (drop 3 (a ∷ b ∷ c ∷ fs)) ≡ fs = take_rest (a ∷ b ∷ c ∷ fs) 3 in rw e refl
-
--- the test of two texts that are equal, and of two that aren't
-pub eq_true : (r : Bool) (xs ys : List ℕ) → r ≡ pointwise nat_eq xs ys → r ≡ true → xs ≡ ys
-eq_true r xs ys h = (slice_eq-Decides Decides-eqb xs ys r h).0
-
-pub eq_from : (r : Bool) (xs ys : List ℕ) → r ≡ pointwise nat_eq xs ys → xs ≡ ys → r ≡ true
-eq_from r xs ys h = (slice_eq-Decides Decides-eqb xs ys r h).1
-
-pub ne_false : (r : Bool) (xs ys : List ℕ) → r ≡ not (pointwise nat_eq xs ys) → r ≡ false → xs ≡ ys
-ne_false r xs ys h e = eq_true (pointwise nat_eq xs ys) xs ys refl (flip (pointwise nat_eq xs ys) (sym h ∙ e))
-  where
-    flip : (b : Bool) → not b ≡ false → b ≡ true
-    flip true e' = refl
-    flip false e' = cc e'
-
-pub ne_true : (r : Bool) (xs ys : List ℕ) → r ≡ not (pointwise nat_eq xs ys) → r ≡ true → xs ≢ ys
-ne_true r xs ys h e same =
-    let t : pointwise nat_eq xs ys ≡ true = eq_from (pointwise nat_eq xs ys) xs ys refl same in
-    let f : not (pointwise nat_eq xs ys) ≡ true = sym h ∙ e in
-    absurd (cc (rw t at f))
 
 pub no_fields : (fs : List (Bor (List ℕ))) → length fs < 1 → texts fs ≡ []
 no_fields [] low = refl

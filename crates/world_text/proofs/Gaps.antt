@@ -1,13 +1,13 @@
 -- The first gap of a world, and the tests for one.
-use Rattle.std.proofs.Common.{◌≡◌, ◌≢◌, ℕ, zero, suc, ◌+◌, ◌<◌, ◌≤◌, Bool, true, false, List, [], ◌∷◌, length, None, refl, subst, arith, All, get_or}
+use Rattle.std.proofs.Common.{◌≡◌, ◌≢◌, ℕ, zero, suc, ◌+◌, ◌<◌, ◌≤◌, Bool, true, false, List, [], ◌∷◌, length, None, refl, subst, arith, get_or}
 use Rattle.std.specs.Prelude.{nat_lt, is_some, ◌&&◌}
 use Rattle.std.specs.List.{list_all, range_with_len}
 use Rattle.std.proofs.lemmas.Bool.{lt-ltb}
-use Rattle.std.proofs.lemmas.List.Elements.{All-head, All-tail}
 use Rattle.price_tables.specs.Tables.{Tabled, count_of, link_at, AreAllLinked}
 use Rattle.workload.specs.declared.rules.AccessSet.{AccessSet}
+use Rattle.workload.specs.declared.rules.Demand.{Demand}
 use Rattle.workload.specs.Load.{no_set}
-use Rattle.workload.specs.World.{IsSetWithin}
+use Rattle.workload.specs.Gaps.{HaveMembersBefore}
 use Rattle.world_text.specs.ReadWorld.{all_linked, all_used}
 
 -- a test of every number of a range
@@ -36,12 +36,14 @@ unlinked t a b within within' h = range_not (λ from. list_all (λ to. is_some (
     (range_not (λ to. is_some (link_at t a to)) 0 (count_of t) b (omega arith) (omega arith) (rw h refl))
 
 -- every set has a member
-pub used : (n : ℕ) (sets : List AccessSet) → All (IsSetWithin n) sets → all_used sets ≡ true
+some_member : (xs : List Demand) → xs ≢ [] → 0 < length xs
+some_member [] some = absurd (some refl)
+some_member (x ∷ xs) some = omega arith
+
+pub used : (sets : List AccessSet) → HaveMembersBefore sets (length sets) → all_used sets ≡ true
 unfolding all_used
-used n [] h = refl
-used n (s ∷ ss) h =
-    let first : IsSetWithin n s = All-head (IsSetWithin n) s ss h in
-    rw (lt-ltb 0 (length s.members) (omega (arith, first.some_member))) (used n ss (All-tail (IsSetWithin n) s ss h))
+used [] h = refl
+used (s ∷ ss) h = rw (lt-ltb 0 (length s.members) (some_member s.members (h 0 (omega arith)))) (used ss (λ k within. h (suc k) (omega arith)))
 
 pub unused : (sets : List AccessSet) (k : ℕ) → k < length sets → (get_or sets k no_set).members ≡ [] → all_used sets ≡ false
 unfolding all_used

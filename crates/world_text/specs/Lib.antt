@@ -1,12 +1,11 @@
 pub mod Records
-pub mod Narrow
-pub mod Reads
-pub mod Parts
-pub mod Layout
 pub mod Steps
 pub mod Faults
 pub mod Spelled
 pub mod Added
 pub mod Judged
 pub mod ReadWorld
+pub mod Toml
+pub mod Taken
 pub mod Worked
+pub mod Written

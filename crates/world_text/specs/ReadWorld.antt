@@ -1,7 +1,9 @@
 -- What the records of a world say, or the first fault with its line.
-use Rattle.std.specs.Prelude.{◌≡◌, ℕ, ◌+◌, Bool, nat_lt, if◌then◌else◌, List, [], ◌∷◌, length, Option, Some, None, is_some, Result, Ok, Err}
+use Rattle.std.specs.Prelude.{◌≡◌, ℕ, ◌+◌, Bool, nat_lt, if◌then◌else◌, List, [], ◌∷◌, length, map, Option, Some, None, is_some, Result, Ok, Err}
 use Rattle.std.specs.List.{list_all, range_with_len}
+use Rattle.span_base.specs.declared.words.Cause.{Cause}
 use Rattle.span_base.specs.declared.words.Cause.TheVariants as cause
+use Rattle.span_base.specs.declared.words.What.{What}
 use Rattle.price_tables.specs.Tables.{Tabled, count_of, link_at}
 use Rattle.workload.specs.declared.rules.AccessSet.{AccessSet}
 use Rattle.workload.specs.World.{Lists, world_of}
@@ -11,7 +13,7 @@ use Rattle.world_text.specs.declared.fault.WorldFault.{WorldFault}
 use Rattle.world_text.specs.declared.fault.WorldFault.TheVariants as world
 use Rattle.world_text.specs.declared.kinds.Version.{Version}
 use Rattle.world_text.specs.declared.draft.Draft.{Draft}
-use Rattle.world_text.specs.Records.{Record}
+use Rattle.world_text.specs.Records.{Record, records_in}
 use Rattle.world_text.specs.Judged.{judged, nothing_read}
 
 -- every pair of centres has a link
@@ -36,26 +38,49 @@ completed d = world_in d.version d
 abbrev pub LineFault : Type 0
 LineFault = ℕ × Fault
 
--- the world that these records make of a draft, the first of them at this line
-unfoldable pub read_from : ℕ → Draft → List Record → Result Lists LineFault
+-- an entry of a world: a record, or None for a table of which no record can be made, since its keys
+-- aren't those of its kind
+abbrev pub Entry : Type 0
+Entry = Option Record
+
+abbrev pub entry_judged : Draft → Entry → Result Draft Fault
+entry_judged d None = Err (Bad cause.Key)
+entry_judged d (Some fields) = judged d fields
+
+-- the world that these entries make of a draft, the first of them at this line
+unfoldable pub read_from : ℕ → Draft → List Entry → Result Lists LineFault
 read_from line d [] = at_end (completed d)
   where
     at_end : Result Lists Fault → Result Lists LineFault
     at_end (Ok w) = Ok w
     at_end (Err fault) = Err (line, fault)
-read_from line d (r ∷ rs) = go_on (judged d r) (λ next. read_from (line + 1) next rs)
+read_from line d (e ∷ es) = go_on (entry_judged d e) (λ next. read_from (line + 1) next es)
   where
     go_on : Result Draft Fault → (Draft → Result Lists LineFault) → Result Lists LineFault
     go_on (Ok next) more = more next
     go_on (Err fault) more = Err (line, fault)
 
--- the world of these records
-abbrev pub read_records : List Record → Result Lists LineFault
-read_records records = read_from 1 nothing_read records
+-- the world of these entries, and of these records
+abbrev pub read_entries : List Entry → Result Lists LineFault
+read_entries entries = read_from 1 nothing_read entries
 
--- what was read is what the records say
-abbrev pub ReadsWorld : List Record → Result Lists WorldFault → Type 0
-ReadsWorld records (Ok w) = read_records records ≡ Ok w
-ReadsWorld records (Err (world.Bad line cause)) = read_records records ≡ Err (line, Bad cause)
-ReadsWorld records (Err (world.Limit line what number)) = read_records records ≡ Err (line, Limit what number)
-ReadsWorld records (Err (world.NoMemory e)) = Unit {0}
+abbrev pub read_records : List Record → Result Lists LineFault
+read_records records = read_entries (map Some records)
+
+-- what a text says in CSV
+abbrev pub csv_says : List ℕ → Result Lists LineFault
+csv_says text = read_records (records_in text)
+
+-- what a text says that is refused at a line: for a cause, or for a number above a limit
+abbrev pub refused_for : ℕ → Cause → Result Lists LineFault
+refused_for line cause = Err (line, Bad cause)
+
+abbrev pub refused_above : ℕ → What → ℕ → Result Lists LineFault
+refused_above line what number = Err (line, Limit what number)
+
+-- what was read is what a text says
+abbrev pub Reads : Result Lists LineFault → Result Lists WorldFault → Type 0
+Reads says (Ok w) = says ≡ Ok w
+Reads says (Err (world.Bad line cause)) = says ≡ refused_for line cause
+Reads says (Err (world.Limit line what number)) = says ≡ refused_above line what number
+Reads says (Err (world.NoMemory e)) = Unit {0}

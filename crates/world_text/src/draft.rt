@@ -1,13 +1,17 @@
-ghost use Rattle.std.specs.Prelude.{◌≡◌, ◌≢◌, ◌∷◌, [], true, Ok, IfOk, IfErr, IfSome, IfNone, OnOk, map, length};
+ghost use Rattle.std.specs.Prelude.{◌≡◌, ◌≢◌, ◌∷◌, [], Some, Ok, IfOk, IfErr, IfSome, IfNone, OnOk, map, length};
 ghost use Rattle.price_tables.specs.Tables.{count_of};
 ghost use Rattle.workload.specs.Gaps.{AreInCentres};
 ghost use Rattle.world_text.specs.Steps.{Gives, IsDue};
 ghost use Rattle.world_text.specs.Judged.{nothing_read, judged, first_judged, dc_judged, link_judged, set_judged, use_judged, with_providers};
-ghost use Rattle.world_text.specs.ReadWorld.{completed, all_used};
+ghost use Rattle.world_text.specs.ReadWorld.{completed, read_from, Reads};
+ghost use Rattle.world_text.specs.Taken.{IsRefused};
+ghost use Rattle.csv.specs.Records.{fields_of};
 
-use crate::fault::{Refusal, bad};
+use crate::fault::{Refusal, WorldFault, bad};
 use crate::kinds::{Kind, Version, kind_of, version_of};
+use crate::rows::fields;
 use crate::spelled::{counts_of, fare_of, name_of, price_of, rule_of};
+use csv::ByteRecord;
 use price_tables::Tables;
 use span_base::{Cause, DcId};
 use std::alloc::{AllocError, Global};
@@ -35,7 +39,7 @@ impl Draft {
     }
 
     /// Takes the next record.
-    pub(crate) fn take(&mut self, alloc: Global, fields: &[&[u8]]) -> Result<(), Refusal>
+    fn take(&mut self, alloc: Global, fields: &[&[u8]]) -> Result<(), Refusal>
         requires { AreInCentres (count_of self.old.tables) self.old.load }
         ensures ok { OnOk result (judged self.old (map (λ f. f.now) fields.now) ≡ Ok self.new) }
         ensures fault { IfErr result (IsDue (judged self.old (map (λ f. f.now) fields.now))) }
@@ -52,6 +56,25 @@ impl Draft {
             Kind::Link => self.take_link(alloc, fields),
             Kind::Set => self.take_set(alloc, version, fields),
             Kind::Use => self.take_use(alloc, fields),
+        }
+    }
+
+    /// Takes the fields of `row` as the record at this line.
+    pub(crate) fn take_row(
+        &mut self,
+        alloc: Global,
+        line: u64,
+        row: &ByteRecord,
+    ) -> Result<(), WorldFault>
+        requires { AreInCentres (count_of self.old.tables) self.old.load }
+        ensures ok { OnOk result (judged self.old (fields_of row.now) ≡ Ok self.new) }
+        ensures fault { IfErr result (IsRefused (Some (fields_of row.now) ∷ []) line self.old) }
+        ensures in_centres { OnOk result (AreInCentres (count_of self.new.tables) self.new.load) }
+    {
+        let fields = fields(alloc, row)?;
+        match self.take(alloc, fields.as_slice()) {
+            Ok(()) => Ok(()),
+            Err(refusal) => Err(refusal.at(line)),
         }
     }
 
@@ -150,7 +173,7 @@ impl Draft {
     }
 
     /// The world of all records.
-    pub(crate) fn complete(self) -> Result<World, Refusal>
+    fn complete(self) -> Result<World, Refusal>
         requires { AreInCentres (count_of self.tables) self.load }
         ensures { Gives (completed self) result }
     {
@@ -162,20 +185,19 @@ impl Draft {
         let Some(_) = version else {
             return Err(bad(Cause::Version));
         };
-        if tables.first_missing().is_some() {
-            return Err(bad(Cause::Link));
-        }
-        let world = World::make(tables, load)?;
-        each_set_is_used(&world);
-        Ok(world)
+        Ok(World::make(tables, load)?)
     }
-}
 
-/// A law: each set of a world has a member.
-fn each_set_is_used(world: &World)
-    ensures { all_used world.now.sets ≡ true }
-{
-    let _count = world.centre_count();
+    /// The world of all records, where this line is one past them.
+    pub(crate) fn complete_at(self, line: u64) -> Result<World, WorldFault>
+        requires { AreInCentres (count_of self.tables) self.load }
+        ensures { Reads (read_from line self []) result }
+    {
+        match self.complete() {
+            Ok(world) => Ok(world),
+            Err(refusal) => Err(refusal.at(line)),
+        }
+    }
 }
 
 /// The field of a set's providers, from the fields after the object. In version 1 there is none,

@@ -1,5 +1,6 @@
 ghost use Rattle.std.specs.Prelude.{◌≡◌, map};
 ghost use Rattle.world_text.specs.Spelled.{kind_of, mode_of, version_of};
+ghost use Rattle.world_text.specs.Toml.{kind_word};
 
 use crate::fault::Fault;
 use span_base::Cause;
@@ -20,6 +21,20 @@ pub(crate) enum Kind {
     Set,
     /// A member of a set.
     Use,
+}
+
+impl Kind {
+    /// The first field of its records, and the key of its tables.
+    pub(crate) fn word(self) -> &'static str
+        ensures { result.now ≡ kind_word self }
+    {
+        match self {
+            Kind::Centre => "dc",
+            Kind::Link => "link",
+            Kind::Set => "set",
+            Kind::Use => "use",
+        }
+    }
 }
 
 /// The version that the first record spells.

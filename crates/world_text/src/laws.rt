@@ -1,21 +1,13 @@
-ghost use Rattle.std.specs.Prelude.{◌≡◌, ℕ, List, [], ◌∷◌, ◌++◌, codes, Ok, Err};
+ghost use Rattle.std.specs.Prelude.{◌≡◌, [], ◌∷◌, ◌++◌, codes, Ok, Err};
 ghost use Rattle.span_base.specs.declared.words.Cause.TheVariants as cause;
-ghost use Rattle.slo_rules.specs.World.{Lists};
-ghost use Rattle.slo_rules.specs.Examples.{two_centres};
-ghost use Rattle.world_text.specs.Narrow.{IsNarrowWorld};
-ghost use Rattle.world_text.specs.Records.{Record, records_of};
+ghost use Rattle.world_text.specs.Records.{records_of};
 ghost use Rattle.world_text.specs.declared.fault.Fault.TheVariants.{Bad};
 ghost use Rattle.world_text.specs.ReadWorld.{read_records};
 ghost use Rattle.world_text.specs.Worked.{worked_before, last_link, worked_after, worked_world};
 
-/// A text is at most one narrow world.
-pub fn one_narrow_world()
-    ensures { (text : List ℕ) (v w : Lists) → IsNarrowWorld text v → IsNarrowWorld text w → v ≡ w }
-{}
-
 /// The records of a dear centre with one member and a cheap one 20 ms away.
 pub fn records_of_two_centres()
-    ensures { records_of two_centres
+    ensures { records_of worked_world
         ≡ (codes "span" ∷ codes "1" ∷ [])
         ∷ (codes "dc" ∷ codes "x" ∷ codes "north" ∷ codes "10" ∷ codes "5" ∷ codes "7" ∷ [])
         ∷ (codes "dc" ∷ codes "y" ∷ codes "south" ∷ codes "1" ∷ codes "5" ∷ codes "7" ∷ [])

@@ -1,27 +1,33 @@
 //! Worlds as text.
 #![tactic(auto)]
 
-mod centres;
 mod draft;
 mod fault;
-mod fields;
 mod kinds;
 mod laws;
-mod layout;
 mod limits;
-mod links;
-mod narrow;
+mod print;
 mod read;
-mod records;
+mod round_trip;
 mod rows;
 mod spelled;
+mod toml_tables;
+mod toml_text;
 
 pub use fault::WorldFault;
-pub use laws::{one_narrow_world, records_of_two_centres, worked_world_is_read};
-pub use narrow::read_narrow;
+pub use laws::{records_of_two_centres, worked_world_is_read};
+pub use print::print_csv;
 pub use read::read_csv;
+pub use round_trip::{printed_worlds_are_read, records_are_in_their_text};
+pub use toml_text::read_toml;
 
+#[cfg(test)]
+mod fault_tests;
+#[cfg(test)]
+mod print_tests;
 #[cfg(test)]
 mod read_tests;
 #[cfg(test)]
-mod tests;
+mod size_tests;
+#[cfg(test)]
+mod toml_tests;

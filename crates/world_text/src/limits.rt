@@ -1,7 +1,5 @@
 //! The greatest values of a world.
 
-/// Centres of a narrow world.
-pub(crate) const CENTRES: usize = 3;
 /// A price, in pico-dollars.
 pub(crate) const PRICE: u64 = 1_000_000_000;
 /// A latency or a goal, in ms.

@@ -1,18 +1,15 @@
-ghost use Rattle.std.specs.Prelude.{List};
-ghost use Rattle.world_text.specs.Narrow.{HasRecords};
-ghost use Rattle.world_text.specs.Records.{Record};
-ghost use Rattle.world_text.specs.ReadWorld.{ReadsWorld};
+ghost use Rattle.world_text.specs.ReadWorld.{Reads, csv_says};
 
 use crate::draft::Draft;
 use crate::fault::WorldFault;
-use crate::rows::fields;
 use csv::ReaderBuilder;
 use std::alloc::{AllocError, Global};
 use workload::World;
 
-/// The world of a text, of version 1 or 2, or its first fault. The records are taken one by one.
+/// The world of a text in CSV, of version 1 or 2, or its first fault. The records are taken one by
+/// one.
 pub fn read_csv(alloc: Global, text: &[u8]) -> Result<World, WorldFault>
-    ensures { (records : List Record) → HasRecords text.now records → ReadsWorld records result }
+    ensures { Reads (csv_says text.now) result }
 {
     let rows = ReaderBuilder::new()
         .has_headers(false)
@@ -26,14 +23,8 @@ pub fn read_csv(alloc: Global, text: &[u8]) -> Result<World, WorldFault>
             // Over a slice nothing but memory can fail.
             return Err(WorldFault::NoMemory(AllocError));
         };
-        let fields = fields(alloc, &row)?;
-        if let Err(refusal) = draft.take(alloc, fields.as_slice()) {
-            return Err(refusal.at(line));
-        }
+        draft.take_row(alloc, line, &row)?;
         line += 1;
     }
-    match draft.complete() {
-        Ok(world) => Ok(world),
-        Err(refusal) => Err(refusal.at(line)),
-    }
+    draft.complete_at(line)
 }

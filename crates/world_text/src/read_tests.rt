@@ -28,11 +28,11 @@ fn fault_of(alloc: Global, parts: &[&str]) -> Result<Option<WorldFault>, AllocEr
     Ok(read_csv(alloc, text.as_bytes()).err())
 }
 
-fn bad(line: u64, cause: Cause) -> Option<WorldFault> {
+pub(crate) fn bad(line: u64, cause: Cause) -> Option<WorldFault> {
     Some(WorldFault::Bad { line, cause })
 }
 
-fn limit(line: u64, what: What, number: u128) -> Option<WorldFault> {
+pub(crate) fn limit(line: u64, what: What, number: u128) -> Option<WorldFault> {
     Some(WorldFault::Limit { line, what, number })
 }
 
@@ -87,25 +87,6 @@ fn tells_what_the_end_shows(rt: HostRuntime) -> Result<(), Fail> {
     assert_eq!(rt;
         fault_of(alloc, &[DCS, LINKS, SET])?,
         bad(9, Cause::Members)
-    );
-    Ok(())
-}
-
-#[test]
-fn tells_the_first_fault_of_a_record(rt: HostRuntime) -> Result<(), Fail> {
-    let alloc = rt.alloc();
-    let dear = "span,1\ndc,x,north,1000000001,5,7\n";
-    assert_eq!(rt;
-        fault_of(alloc, &[dear])?,
-        limit(2, What::Price, 1_000_000_001)
-    );
-    assert_eq!(rt;
-        fault_of(alloc, &[DCS, "dc,x,north,1,5,7\n"])?,
-        bad(4, Cause::Twice)
-    );
-    assert_eq!(rt;
-        fault_of(alloc, &[DCS, SET, "use,s,z,10,4\n"])?,
-        bad(5, Cause::Unknown)
     );
     Ok(())
 }

@@ -8,12 +8,12 @@ ghost use Rattle.world_text.specs.Steps.{Gives};
 ghost use Rattle.world_text.specs.Spelled.{name_of, number_up_to, providers_of, price_of, fare_of, rule_of, counts_of};
 
 use crate::fault::{Fault, Refusal, bad};
-use crate::fields::name_word;
 use crate::kinds::mode_of;
 use crate::limits::{COUNT, FAILURES, LATENCY, OBJECT, PRICE, PROVIDERS, STORED};
 use price_tables::{DcPrice, Fare};
-use span_base::{Cause, NumberFault, What, Word, read_number};
+use span_base::{Cause, NumberFault, What, Word, read_name, read_number};
 use std::alloc::Global;
+use std::str;
 use workload::SetRule;
 
 /// The text as a name.
@@ -22,9 +22,12 @@ pub(crate) fn name_of(alloc: Global, text: &[u8]) -> Result<Word, Refusal>
     ensures name { Gives (name_of text.now) result }
     ensures spelled { IfOk result (λ word. IsName word) }
 {
-    match name_word(alloc, text)? {
-        Some(word) => Ok(word),
-        None => Err(bad(Cause::Name)),
+    if read_name(text).is_err() {
+        return Err(bad(Cause::Name));
+    }
+    match str::from_utf8(text) {
+        Ok(text) => Ok(Word::from_string(String::from_str(alloc, text)?)),
+        Err(_) => Err(bad(Cause::Name)),
     }
 }
 

@@ -1,0 +1,12 @@
+use Rattle.std.proofs.Common.{refl, arith}
+use Rattle.workload.specs.Load.{no_set}
+use Rattle.world_text.specs.Records.{set_record}
+use Rattle.world_text.proofs.Printing.{adds_none, adds_next}
+use Rattle.world_text.proofs.print.print_sets.Goals as goal
+
+pub loop-set-init : goal.loop-set-init
+loop-set-init c = adds_none c.args.text.now c.requires
+
+pub loop-set-preserved : goal.loop-set-preserved
+loop-set-preserved c =
+    adds_next (set_record c.args.version) c.args.world.now.sets c.loop-set.set no_set _ c.args.text.now c.loop-set.text c.print_set.new.text (omega arith) refl c.loop-set.invariant c.in_ok-print_set.ensures
