@@ -20,10 +20,11 @@ const HELP: &str = "\
 Places the replicas of data sets in data centres at the least cost, with a proof of it.
 
 usage:
-  span plan WORLD    plans the world in a CSV file, and writes the plan
+  span plan WORLD    plans the world in a file, and writes the plan
   span --help        writes this text
   span --version     writes the version
 
+A world is read as TOML where the file's name ends in .toml, else as CSV.
 The exit status is 0 where the plan is complete. Any other is told on standard error.
 ";
 

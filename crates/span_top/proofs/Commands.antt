@@ -1,6 +1,6 @@
 -- Numbers among the words of the command line.
-use Rattle.std.proofs.Common.{◌≡◌, ℕ, ◌≤◌, ◌<◌, Bool, true, false, ◌&&◌, nat_le, List, Result, Ok, Err, refl, sym, ap, ◌∙◌, arith}
-use Rattle.std.proofs.lemmas.Bool.{le-leb, lt-leb, and_right, false_from_ne_true, cases_Bool}
+use Rattle.std.proofs.Common.{◌≡◌, ℕ, Bool, true, false, ◌&&◌, nat_le, List, Ok, Err, refl, sym, ap, ◌∙◌, arith}
+use Rattle.std.proofs.lemmas.Bool.{le-leb, lt-leb, and_right, false_from_ne_true}
 use Rattle.span_base.specs.Number.{is_number, number_of, ReadsNumber}
 use Rattle.span_base.specs.declared.number.NumberFault.{NumberFault}
 use Rattle.span_base.specs.declared.number.NumberFault.TheVariants.{Bad, Limit}

@@ -5,15 +5,17 @@ use Rattle.std.proofs.lemmas.List.FromFn.{length-range_with_len}
 use Rattle.span_base.specs.Files.{Files, file_of}
 use Rattle.span_base.specs.Whole.{ReadsWhole, ReadsWholeFile}
 use Rattle.span_base.specs.declared.reading.FileFault.TheVariants as fault
-use Rattle.slo_rules.specs.World.{Lists}
-use Rattle.world_text.specs.Narrow.{IsNarrowWorld}
+use Rattle.workload.specs.World.{Lists}
+use Rattle.span_base.specs.declared.words.Cause.{Cause}
+use Rattle.span_base.specs.declared.words.What.{What}
+use Rattle.world_text.specs.ReadWorld.{LineFault, refused_for, refused_above}
 use Rattle.planner.specs.Plans.{IsLeastPlan, IsPlanWithout, IsPlanFront}
-use Rattle.planner.specs.Writes.{TakesText}
+use Rattle.planner.specs.Writes.{IsServed, TakesText}
 use Rattle.span_base.specs.declared.ids.SetId.{SetId}
 use Rattle.span_top.specs.declared.plan_command.TheConstants.{WORLD_BYTES}
 use Rattle.span_top.specs.declared.status.Status.{Status}
 use Rattle.span_top.specs.declared.status.Status.TheVariants as status
-use Rattle.span_top.specs.Planned.{Holds, Lacks, IsTooLong, IsNoWorld, PlanEnds, PlansWorld, BytesEnd}
+use Rattle.span_top.specs.Planned.{Holds, Lacks, IsTooLong, FileSays, PlanEnds, PlansWorld, BytesEnd, WorldEnds, world_says}
 
 held_file : (found : Option (List ℕ)) (limit : ℕ) (bytes : List ℕ) → ReadsWholeFile found limit (Ok bytes) → found ≡ Some bytes
 held_file None limit bytes h = absurd h
@@ -47,35 +49,47 @@ read_too_long (Some files) name h =
     let long = long_file (file_of name files) WORLD_BYTES h in
     record { bytes = long.0; held = long.1; above = long.2 }
 
-plans_world : (bytes : List ℕ) (w : Lists) (old new : Option (List ℕ)) (Is : Lists → List ℕ → Type 0) → IsNarrowWorld bytes w → TakesText old new (Is w) → (files : Option Files) (name : List ℕ) → Holds files name bytes → length bytes ≤ WORLD_BYTES → PlansWorld files name old new Is
-plans_world bytes w old new Is world text files name held within =
-    record { world = w; file = record { bytes = bytes; held = held; within = within; world = world }; text = text }
+plans_world : (w : Lists) (old new : Option (List ℕ)) (Is : Lists → List ℕ → Type 0) → IsServed w → TakesText old new (Is w) → (files : Option Files) (name : List ℕ) → FileSays files name (Ok w) → PlansWorld files name old new Is
+plans_world w old new Is served text files name file = record { world = w; file = file; served = served; text = text }
 
-pub ends_done : (bytes : List ℕ) (w : Lists) (old new : Option (List ℕ)) → IsNarrowWorld bytes w → TakesText old new (IsLeastPlan w) → BytesEnd bytes old new status.Done
-ends_done bytes w old new world text = plans_world bytes w old new IsLeastPlan world text
+pub ends_done : (w : Lists) (old new : Option (List ℕ)) → IsServed w → TakesText old new (IsLeastPlan w) → WorldEnds w old new status.Done
+ends_done w old new served text = plans_world w old new IsLeastPlan served text
 
-pub ends_without : (bytes : List ℕ) (w : Lists) (old new : Option (List ℕ)) (set : SetId) → IsNarrowWorld bytes w → TakesText old new (λ text. IsPlanWithout w text set.0) → BytesEnd bytes old new (status.NoPolicy set)
-ends_without bytes w old new set world text = plans_world bytes w old new (λ w text. IsPlanWithout w text set.0) world text
+pub ends_without : (w : Lists) (old new : Option (List ℕ)) (set : SetId) → IsServed w → TakesText old new (λ text. IsPlanWithout w text set.0) → WorldEnds w old new (status.NoPolicy set)
+ends_without w old new set served text = plans_world w old new (λ w text. IsPlanWithout w text set.0) served text
 
-pub ends_unwritten : (bytes : List ℕ) (w : Lists) (old new : Option (List ℕ)) → IsNarrowWorld bytes w → TakesText old new (IsPlanFront w) → BytesEnd bytes old new status.WriteFault
-ends_unwritten bytes w old new world text = plans_world bytes w old new IsPlanFront world text
+pub ends_unwritten : (w : Lists) (old new : Option (List ℕ)) → IsServed w → TakesText old new (IsPlanFront w) → WorldEnds w old new status.WriteFault
+ends_unwritten w old new served text = plans_world w old new IsPlanFront served text
 
-pub ends_in_want : (bytes : List ℕ) (w : Lists) (old new : Option (List ℕ)) → IsNarrowWorld bytes w → (new ≡ old) ⊎ TakesText old new (IsPlanFront w) → BytesEnd bytes old new status.NoMemory
-ends_in_want bytes w old new world (inl same) files name held within = inl same
-ends_in_want bytes w old new world (inr text) files name held within =
-    inr (plans_world bytes w old new IsPlanFront world text files name held within)
+pub ends_in_want : (w : Lists) (old new : Option (List ℕ)) → IsServed w → (new ≡ old) ⊎ TakesText old new (IsPlanFront w) → WorldEnds w old new status.NoMemory
+ends_in_want w old new served (inl same) files name file = inl same
+ends_in_want w old new served (inr text) files name file = inr (plans_world w old new IsPlanFront served text files name file)
 
-pub ends_unread : (bytes : List ℕ) (old : Option (List ℕ)) → BytesEnd bytes old old status.NoMemory
-ends_unread bytes old files name held within = inl refl
+pub ends_unserved : (w : Lists) (old : Option (List ℕ)) → ¬ (IsServed w) → WorldEnds w old old (status.NotBuilt 0)
+ends_unserved w old not files name file = (refl, record { world = w; file = file; unserved = not }, refl)
 
-pub ends_no_world : (bytes : List ℕ) (old : Option (List ℕ)) → ((w : Lists) → ¬ (IsNarrowWorld bytes w)) → BytesEnd bytes old old (status.NotBuilt 0)
-ends_no_world bytes old not files name held within =
-    (refl, record { bytes = bytes; held = held; within = within; no_world = not }, refl)
+says : (files : Option Files) (name bytes : List ℕ) (told : Result Lists LineFault) → world_says name bytes ≡ told → Holds files name bytes → length bytes ≤ WORLD_BYTES → FileSays files name told
+says files name bytes told is held within = record { bytes = bytes; held = held; within = within; is = is }
+
+-- a world that the bytes say ends as it does
+pub ends_with_world : (name bytes : List ℕ) (w : Lists) (old new : Option (List ℕ)) (s : Status) → world_says name bytes ≡ Ok w → WorldEnds w old new s → BytesEnd name bytes old new s
+ends_with_world name bytes w old new s is ends files held within = ends files name (says files name bytes (Ok w) is held within)
+
+pub ends_bad : (name bytes : List ℕ) (old : Option (List ℕ)) (line : ℕ) (cause : Cause) → world_says name bytes ≡ refused_for line cause → BytesEnd name bytes old old (status.BadInput 0 line cause)
+ends_bad name bytes old line cause is files held within = (refl, says files name bytes (refused_for line cause) is held within, refl)
+
+pub ends_above : (name bytes : List ℕ) (old : Option (List ℕ)) (line : ℕ) (what : What) (number : ℕ) → world_says name bytes ≡ refused_above line what number → BytesEnd name bytes old old (status.TooLarge 0 line what number)
+ends_above name bytes old line what number is files held within = (refl, inr (says files name bytes (refused_above line what number) is held within), refl)
+
+pub ends_unread : (name bytes : List ℕ) (old : Option (List ℕ)) → BytesEnd name bytes old old status.NoMemory
+ends_unread name bytes old files held within = inl refl
 
 -- `plan` never answers that its words are of no command
 pub not_usage : (files : Option Files) (name : List ℕ) (old new : Option (List ℕ)) (s : Status) → PlanEnds files name old new s → s ≡ status.Usage → ⊥
 not_usage files name old new s ends same = subst (PlanEnds files name old new) same ends
 
-pub ruleset plans = (ends_done, ends_without, ends_unwritten, ends_in_want, ends_unread, ends_no_world)
+pub ruleset plans = (ends_done, ends_without, ends_unwritten, ends_in_want, ends_unserved)
+
+pub ruleset refuses = (ends_with_world, ends_bad, ends_above, ends_unread)
 
 pub ruleset reads = (read_holds, read_lacks, read_too_long)

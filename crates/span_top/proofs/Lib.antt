@@ -1,3 +1,2 @@
-pub mod Served
 pub mod Commands
 pub mod Endings

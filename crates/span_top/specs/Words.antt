@@ -1,6 +1,5 @@
 -- The words of the command line.
-use Rattle.std.specs.Prelude.{ℕ, Bool, true, false, ◌&&◌, ◌||◌, not, if◌then◌else◌, nat_lt, nat_le, nat_eq, List, [], ◌∷◌, length, codes, Option, Some, None}
-use Rattle.std.specs.List.{ends_with}
+use Rattle.std.specs.Prelude.{ℕ, Bool, false, ◌&&◌, ◌||◌, if◌then◌else◌, nat_lt, nat_le, List, [], ◌∷◌, length, codes, Option, Some, None}
 use Rattle.std.specs.Str.{bytes_eq}
 use Rattle.span_base.specs.Number.{is_number, number_of}
 
@@ -32,13 +31,9 @@ is_command (word ∷ last ∷ []) = is_short_command word last
 is_command (word ∷ world ∷ last ∷ []) = is_long_command word world last
 is_command (word ∷ world ∷ last ∷ next ∷ more) = false
 
--- the name ends as that of a TOML file
-abbrev pub names_toml : List ℕ → Bool
-names_toml name = ends_with nat_eq name (codes ".toml")
-
--- the world that the words `plan WORLD` ask to plan, where it isn't a TOML file
+-- the world that the words `plan WORLD` ask to plan
 abbrev pub planned_world : List (List ℕ) → Option (List ℕ)
 planned_world [] = None
 planned_world (word ∷ []) = None
-planned_world (word ∷ name ∷ []) = if bytes_eq word (codes "plan") && (is_file name && not (names_toml name)) then Some name else None
+planned_world (word ∷ name ∷ []) = if bytes_eq word (codes "plan") && is_file name then Some name else None
 planned_world (word ∷ name ∷ next ∷ more) = None

@@ -1,5 +1,5 @@
-ghost use Rattle.std.specs.Prelude.{◌≡◌, ◌&&◌, not, option_map};
-ghost use Rattle.span_top.specs.Words.{is_file, is_between, is_short_command, is_long_command, is_command, names_toml, planned_world};
+ghost use Rattle.std.specs.Prelude.{◌≡◌, option_map};
+ghost use Rattle.span_top.specs.Words.{is_between, is_short_command, is_long_command, is_command, planned_world};
 
 use span_base::{Word, read_number};
 
@@ -19,12 +19,12 @@ pub fn is_command(words: &[Word]) -> bool
     }
 }
 
-/// The world that the words ask to plan, where it is to be read as CSV.
+/// The world that the words ask to plan.
 pub fn planned_world(words: &[Word]) -> Option<&Word>
     ensures { option_map (λ w. w.now) result ≡ planned_world words.now }
 {
     match words {
-        [word, name] if word.as_str() == "plan" && names_csv(name) => Some(name),
+        [word, name] if word.as_str() == "plan" && !name.is_empty() => Some(name),
         _ => None,
     }
 }
@@ -58,11 +58,4 @@ fn is_between(low: u128, high: u128, word: &Word) -> bool
         Ok(number) => low <= number,
         Err(_) => false,
     }
-}
-
-// Any file is read as CSV whose name doesn't say that it is TOML.
-fn names_csv(name: &Word) -> bool
-    ensures { result ≡ (is_file name.now && not (names_toml name.now)) }
-{
-    !name.is_empty() && !name.as_bytes().ends_with(b".toml")
 }

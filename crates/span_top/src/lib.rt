@@ -13,3 +13,5 @@ pub use status::Status;
 mod plan_tests;
 #[cfg(test)]
 mod tests;
+#[cfg(test)]
+mod world_tests;

@@ -1,12 +1,14 @@
 ghost use Rattle.std.specs.Prelude.{◌≡◌, ◌≢◌, ◌≤◌};
 ghost use Rattle.span_base.specs.Counts.{Rose};
-ghost use Rattle.span_top.specs.Planned.{PlanEnds, BytesEnd};
+ghost use Rattle.world_text.specs.ReadWorld.{Reads};
+ghost use Rattle.span_top.specs.Planned.{PlanEnds, BytesEnd, WorldEnds, world_says};
 
 use crate::status::Status;
-use planner::{PlanEnd, PlanFault, plan_all};
+use planner::{PlanEnd, PlanFault, is_served, plan_all};
 use span_base::{Bytes, FileFault, Shelf, Sink, What, read_whole};
 use std::alloc::Global;
-use world_text::read_narrow;
+use workload::World;
+use world_text::{WorldFault, read_csv, read_toml};
 
 /// The greatest number of bytes of a world's file.
 pub const WORLD_BYTES: u64 = 16_777_216;
@@ -23,7 +25,7 @@ pub fn plan<S: Shelf, K: Sink>(alloc: Global, name: &str, shelf: &mut S, out: &m
     ensures write_faults_stay { K.faults out.old ≤ K.faults out.new }
 {
     match read_whole(alloc, shelf, name, WORLD_BYTES) {
-        Ok(bytes) => plan_bytes(alloc, &bytes, out),
+        Ok(bytes) => plan_bytes(alloc, name, &bytes, out),
         Err(FileFault::Absent) => Status::Absent { file: 0 },
         Err(FileFault::ReadFault) => Status::ReadFault,
         Err(FileFault::TooLarge) => Status::TooLarge {
@@ -36,23 +38,59 @@ pub fn plan<S: Shelf, K: Sink>(alloc: Global, name: &str, shelf: &mut S, out: &m
     }
 }
 
-// Plans the world that the bytes of a file are, and writes the plan.
-#[tactic(auto, using(crate::proofs::Endings::plans, crate::proofs::Served::narrow_is_served))]
-fn plan_bytes<K: Sink>(alloc: Global, bytes: &Bytes, out: &mut K) -> Status
-    ensures ends { BytesEnd bytes.now (K.taken out.old) (K.taken out.new) result }
+// Plans the world that the bytes of a file of this name are, and writes the plan.
+#[tactic(auto, using(crate::proofs::Endings::refuses))]
+fn plan_bytes<K: Sink>(alloc: Global, name: &str, bytes: &Bytes, out: &mut K) -> Status
+    ensures ends { BytesEnd name.now bytes.now (K.taken out.old) (K.taken out.new) result }
     ensures no_read_fault { result ≢ Status.ReadFault }
     ensures no_absent { result ≢ Status.Absent 0 }
     ensures write_fault { result ≡ Status.WriteFault → Rose (K.faults out.old) (K.faults out.new) }
     ensures write_faults_stay { K.faults out.old ≤ K.faults out.new }
 {
-    match read_narrow(alloc, bytes.as_slice()) {
-        Ok(Some(world)) => match plan_all(alloc, &world, out) {
-            Ok(PlanEnd::Complete) => Status::Done,
-            Ok(PlanEnd::NoPolicy { set }) => Status::NoPolicy { set },
-            Err(PlanFault::WriteFault) => Status::WriteFault,
-            Err(PlanFault::NoMemory) => Status::NoMemory,
+    match read_world(alloc, name, bytes.as_slice()) {
+        Ok(world) => plan_world(alloc, &world, out),
+        Err(WorldFault::Bad { line, cause }) => Status::BadInput {
+            file: 0,
+            line,
+            cause,
         },
-        Ok(None) => Status::NotBuilt { line: 0 },
-        Err(_) => Status::NoMemory,
+        Err(WorldFault::Limit { line, what, number }) => Status::TooLarge {
+            file: 0,
+            line,
+            what,
+            number,
+        },
+        Err(WorldFault::NoMemory(_)) => Status::NoMemory,
+    }
+}
+
+// The world of a text, which is TOML where the name says so, else CSV.
+fn read_world(alloc: Global, name: &str, text: &[u8]) -> Result<World, WorldFault>
+    ensures { Reads (world_says name.now text.now) result }
+{
+    if name.as_bytes().ends_with(b".toml") {
+        read_toml(alloc, text)
+    } else {
+        read_csv(alloc, text)
+    }
+}
+
+// Plans a world, and writes the plan.
+#[tactic(auto, using(crate::proofs::Endings::plans))]
+fn plan_world<K: Sink>(alloc: Global, world: &World, out: &mut K) -> Status
+    ensures ends { WorldEnds world.now (K.taken out.old) (K.taken out.new) result }
+    ensures no_read_fault { result ≢ Status.ReadFault }
+    ensures no_absent { result ≢ Status.Absent 0 }
+    ensures write_fault { result ≡ Status.WriteFault → Rose (K.faults out.old) (K.faults out.new) }
+    ensures write_faults_stay { K.faults out.old ≤ K.faults out.new }
+{
+    if !is_served(world) {
+        return Status::NotBuilt { line: 0 };
+    }
+    match plan_all(alloc, world, out) {
+        Ok(PlanEnd::Complete) => Status::Done,
+        Ok(PlanEnd::NoPolicy { set }) => Status::NoPolicy { set },
+        Err(PlanFault::WriteFault) => Status::WriteFault,
+        Err(PlanFault::NoMemory) => Status::NoMemory,
     }
 }

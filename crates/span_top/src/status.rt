@@ -1,4 +1,4 @@
-use span_base::{SetId, What};
+use span_base::{Cause, SetId, What};
 use std::fmt;
 
 /// How a run of the program ends.
@@ -13,6 +13,12 @@ pub enum Status {
     /// There is no file of this name; files are counted from 0 in the order of the words.
     Absent {
         file: u8,
+    },
+    /// A line of a file is refused for this cause; files are counted from 0, lines from 1.
+    BadInput {
+        file: u8,
+        line: u64,
+        cause: Cause,
     },
     /// The plan is written, and no policy of this set is allowed.
     NoPolicy {
@@ -48,6 +54,7 @@ impl Status {
             Status::NoMemory => 1,
             Status::Usage => 2,
             Status::Absent { .. } => 3,
+            Status::BadInput { .. } => 4,
             Status::NoPolicy { .. } => 5,
             Status::ReadFault => 9,
             Status::WriteFault => 10,
@@ -65,6 +72,9 @@ impl fmt::Display for Status {
             Status::NoMemory => f.write_str("NoMemory"),
             Status::Usage => f.write_str("Usage"),
             Status::Absent { file } => write!(f, "Absent {file}"),
+            Status::BadInput { file, line, cause } => {
+                write!(f, "BadInput {file} {line} {}", cause.word())
+            }
             Status::NoPolicy { set } => write!(f, "NoPolicy {}", set.0),
             Status::ReadFault => f.write_str("ReadFault"),
             Status::WriteFault => f.write_str("WriteFault"),

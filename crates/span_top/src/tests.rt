@@ -14,9 +14,14 @@ pub(crate) fn words(alloc: Global, texts: &[&str]) -> Result<Vec<Word>, AllocErr
 
 // The one file `w`.
 pub(crate) fn file_w(alloc: Global, text: &str) -> Result<Vec<FileEntry>, AllocError> {
+    file(alloc, "w", text)
+}
+
+// The one file of this name.
+pub(crate) fn file(alloc: Global, name: &str, text: &str) -> Result<Vec<FileEntry>, AllocError> {
     let mut files = Vec::new(alloc);
     files.push(FileEntry {
-        name: Word::from_string(String::from_str(alloc, "w")?),
+        name: Word::from_string(String::from_str(alloc, name)?),
         bytes: Bytes::from_vec(text.as_bytes().to_vec(alloc)?),
     })?;
     Ok(files)
@@ -51,7 +56,6 @@ fn commands_that_are_not_served_say_so(rt: HostRuntime) -> Result<(), Fail> {
     let alloc = rt.alloc();
     let not_built = Status::NotBuilt { line: 0 };
     assert_eq!(rt; without_files(alloc, &["check", "a", "b"])?, not_built);
-    assert_eq!(rt; without_files(alloc, &["plan", "w.toml"])?, not_built);
     assert_eq!(rt;
         without_files(alloc, &["plan", "w", "1000000000"])?,
         not_built
@@ -63,10 +67,9 @@ fn commands_that_are_not_served_say_so(rt: HostRuntime) -> Result<(), Fail> {
 #[test]
 fn a_missing_world_is_absent(rt: HostRuntime) -> Result<(), Fail> {
     let alloc = rt.alloc();
-    assert_eq!(rt;
-        without_files(alloc, &["plan", "w"])?,
-        Status::Absent { file: 0 }
-    );
+    let absent = Status::Absent { file: 0 };
+    assert_eq!(rt; without_files(alloc, &["plan", "w"])?, absent);
+    assert_eq!(rt; without_files(alloc, &["plan", "w.toml"])?, absent);
     Ok(())
 }
 
