@@ -84,6 +84,10 @@ module _ {T : Type 0} where
   abbrev pub handle_of : List (Slot T) → ℕ → Handle
   handle_of slots number = record { slot = number; generation = generation_at slots number }
 
+  -- the handle of a slot that holds an item
+  abbrev pub handle_at : List (Slot T) → ℕ → Option Handle
+  handle_at slots number = if is_some (item_at slots (handle_of slots number)) then Some (handle_of slots number) else None
+
   -- the handle that the next put gives
   abbrev pub next_handle : List (Slot T) → Option Handle
   next_handle slots = option_map (handle_of slots) (first_empty slots)

@@ -12,5 +12,6 @@ pub struct Handle {
 /// No slot is free. The item that was to be put is handed back.
 #[derive(Debug, Drop, PartialEq, Eq)]
 pub struct Full<T> {
+    /// The item, as it was given to `put`.
     pub item: T,
 }

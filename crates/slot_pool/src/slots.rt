@@ -1,8 +1,8 @@
 //! The slots of a pool.
-ghost use Rattle.std.specs.Prelude.{◌≡◌, ◌+◌, ◌<◌, ◌≤◌, ◌↔◌, length, replicate, Some, None, IsTrue, IsSome, IsErr, IsNone, IfOk, IfErr, option_copied};
+ghost use Rattle.std.specs.Prelude.{◌≡◌, ◌+◌, ◌<◌, ◌≤◌, ◌↔◌, length, replicate, Some, None, IsTrue, IsSome, IfSome, IsErr, IsNone, IfOk, IfErr, option_copied};
 ghost use Rattle.std.specs.Option.{option_copied_mut};
 ghost use Rattle.std.specs.Borrow.{Lends, sem};
-ghost use Rattle.slot_pool.specs.Slots.{new_slot, item_at, IsLive, live_count, next_handle, after_put, after_take, with_item, without_item};
+ghost use Rattle.slot_pool.specs.Slots.{new_slot, item_at, IsLive, live_count, handle_at, next_handle, after_put, after_take, with_item, without_item};
 
 use crate::free::FreeSlots;
 use crate::handles::{Full, Handle};
@@ -175,6 +175,19 @@ impl<T> Pool<T> {
         self.slots
             .get(handle.slot as usize)?
             .item(handle.generation)
+    }
+
+    /// The handle of the slot of this number where it holds an item: `None` where it is empty,
+    /// retired, or not one of the pool.
+    pub fn handle_at(&self, slot: u32) -> Option<Handle>
+        ensures handle { result ≡ handle_at self.now slot }
+        ensures live { IfSome result (λ handle. (handle.slot ≡ slot) × IsLive self.now handle) }
+        ensures only { (handle : Handle) → handle.slot ≡ slot → IsLive self.now handle → result ≡ Some handle }
+    {
+        let generation = self.slots.get(slot as usize)?.generation;
+        let handle = Handle { slot, generation };
+        let _item = self.get(handle)?;
+        Some(handle)
     }
 
     /// The item under the handle for writing, where the handle is live.

@@ -26,7 +26,7 @@ le_by_cases : (p q : ℕ) → (p < q → ⊥) → q ≤ p
 le_by_cases p q never = omega arith
 
 -- what can go on longer can go on to an earlier place
-earlier : (Grammar : List ℕ → Type 0) (text : List ℕ) (a b : ℕ) → a + 1 ≤ b → CanGoOn Grammar (take b text) → CanGoOn Grammar (take (a + 1) text)
+pub earlier : (Grammar : List ℕ → Type 0) (text : List ℕ) (a b : ℕ) → a + 1 ≤ b → CanGoOn Grammar (take b text) → CanGoOn Grammar (take (a + 1) text)
 earlier Grammar text a b low more =
     let rest : List ℕ = drop (a + 1) (take b text) in
     let parts : take (a + 1) text ++ rest ≡ take b text = ap (λ xs. xs ++ rest) (sym (take-take (a + 1) b text low)) ∙ take-append-drop (a + 1) (take b text) in

@@ -9,5 +9,6 @@ pub mod Memory
 pub mod Name
 pub mod Number
 pub mod Policy
+pub mod PolicyParts
 pub mod Taken
 pub mod Whole

@@ -15,6 +15,7 @@ pub struct DcSet {
 impl DcSet {
     ghost use Rattle.span_base.specs.DcSet.{bits_of, has, centres_of, no_centre, meet, join, insert};
 
+    /// The set of no centre.
     pub fn empty() -> DcSet
         ensures set { result ≡ no_centre }
         ensures has { (d : ℕ) → has result d ≡ false }
@@ -22,12 +23,14 @@ impl DcSet {
         DcSet { bits: 0 }
     }
 
+    /// The set that has centre `d` where bit `d` is set, counted from the least.
     pub fn from_bits(bits: u16) -> DcSet
         ensures { bits_of result ≡ bits }
     {
         DcSet { bits }
     }
 
+    /// The number whose bit `d`, counted from the least, is set where centre `d` is in the set.
     pub fn bits(self) -> u16
         ensures { result ≡ bits_of self }
     {
@@ -46,7 +49,7 @@ impl DcSet {
         }
     }
 
-    /// False of any number from 16 on.
+    /// Whether `dc` is in the set. No number from 16 on is.
     pub fn has(&self, dc: DcId) -> bool
         ensures member { result ≡ has self.now dc.0 }
         ensures limit { IsTrue result → dc.0 < CENTRES }
@@ -54,6 +57,7 @@ impl DcSet {
         dc.0 < CENTRES && self.bits >> dc.0 & 1 == 1
     }
 
+    /// How many centres are in the set.
     pub fn count(&self) -> u32
         ensures count { result ≡ length (centres_of self.now) }
         ensures limit { result ≤ CENTRES }

@@ -9,7 +9,9 @@ use crate::{Bytes, Word};
 /// A file of a shelf in memory.
 #[derive(Debug, Drop)]
 pub struct FileEntry {
+    /// The name under which it is read. Of equal names the first file counts.
     pub name: Word,
+    /// All its bytes.
     pub bytes: Bytes,
 }
 

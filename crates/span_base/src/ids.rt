@@ -14,6 +14,8 @@ pub struct KeyId(pub u16);
 /// which are counted from 1.
 #[derive(Clone, Copy, Debug, PartialEq, Eq)]
 pub struct Call {
+    /// The number of the proxy.
     pub proxy: u8,
+    /// The number of the call among those of its proxy, from 1 on.
     pub seq: u32,
 }

@@ -2,7 +2,6 @@
 //! spelled in every format, the words of faults, and the outside as traits.
 #![tactic(auto)]
 
-mod bytes;
 mod calm_shelf;
 mod calm_sink;
 mod dc_set;
@@ -17,6 +16,7 @@ mod members;
 mod name;
 mod number;
 mod policy;
+mod policy_parts;
 mod quorum;
 mod reading;
 mod shelf;
@@ -27,18 +27,17 @@ mod word;
 mod words;
 mod writing;
 
-pub use bytes::Bytes;
 pub use calm_shelf::CalmShelf;
 pub use calm_sink::CalmSink;
 pub use dc_set::{CENTRES, DcSet};
 pub use entries::FileEntry;
 pub use ids::{Call, DcId, KeyId, SetId};
-pub use listed::Listed;
+pub use listed::{Bytes, Listed};
 pub use mem_shelf::MemShelf;
 pub use mem_sink::MemSink;
 pub use members::MEMBERS;
 pub use name::{BadName, NAME_BYTES, read_name};
-pub use number::{NUMBER_DIGITS, NumberFault, push_number, read_number};
+pub use number::{NUMBER_DIGITS, NumberFault, read_number};
 pub use policy::{Hop, Near, Policy, Quorum};
 pub use quorum::{FAULTS, is_quorum};
 pub use reading::{FileFault, read_whole};
@@ -52,5 +51,7 @@ pub use writing::write_all;
 
 #[cfg(test)]
 mod outside_tests;
+#[cfg(test)]
+mod policy_tests;
 #[cfg(test)]
 mod tests;

@@ -4,10 +4,10 @@ ghost use Rattle.span_base.specs.Name.{ReadsName, is_name_byte};
 /// The greatest number of bytes of a name.
 pub const NAME_BYTES: usize = 32;
 
-/// The text is no name: it can't go on at the byte `at`, counted from 0 (at its length where it
-/// is empty).
+/// The text is no name: it can't go on at the byte `at` (at its length where it is empty).
 #[derive(Clone, Copy, Debug, PartialEq, Eq)]
 pub struct BadName {
+    /// The place of the byte, counted from 0.
     pub at: usize,
 }
 

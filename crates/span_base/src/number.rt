@@ -1,8 +1,5 @@
-ghost use Rattle.std.specs.Prelude.{◌≡◌, ◌≢◌, ◌^◌, ◌<◌, ◌++◌, length, slice_index, decimal, OnOk, OnErr};
-ghost use Rattle.span_base.specs.Number.{IsNumber, number_of, ReadsNumber};
-
-use itoa::Buffer;
-use std::alloc::AllocError;
+ghost use Rattle.std.specs.Prelude.{◌≢◌, ◌<◌, length, slice_index};
+ghost use Rattle.span_base.specs.Number.{ReadsNumber};
 
 /// The greatest number of digits of a number.
 pub const NUMBER_DIGITS: usize = 38;
@@ -16,7 +13,8 @@ pub enum NumberFault {
     Limit { number: u128 },
 }
 
-/// Reads the whole text as a number of at most `limit`.
+/// Reads the whole text as a number of at most `limit`: `0`, or 1 to 38 decimal digits of which
+/// the first isn't `0`.
 pub fn read_number(text: &[u8], limit: u128) -> Result<u128, NumberFault>
     ensures { ReadsNumber text.now limit result }
 {
@@ -46,14 +44,4 @@ fn read_digits(text: &[u8], limit: u128) -> Result<u128, NumberFault>
     } else {
         Ok(number)
     }
-}
-
-/// Puts the decimal digits of `number` at the end of `out`.
-pub fn push_number(out: &mut Vec<u8>, number: u128) -> Result<(), AllocError>
-    ensures ok { OnOk result (out.new.items ≡ out.old.items ++ decimal number) }
-    ensures err { OnErr result (out.new.items ≡ out.old.items) }
-    ensures reads_back { number < 10 ^ 38 → IsNumber (decimal number) × (number_of (decimal number) ≡ number) }
-{
-    let mut buffer = Buffer::new();
-    out.extend_from_slice(buffer.format(number).as_bytes())
 }

@@ -6,7 +6,9 @@ use std::alloc::AllocError;
 /// Where the clients of the centre `member` read and write: at the replica in centre `at`.
 #[derive(Clone, Copy, Debug, PartialEq, Eq)]
 pub struct Near {
+    /// The centre of the clients.
     pub member: DcId,
+    /// The centre of the replica.
     pub at: DcId,
 }
 
@@ -14,8 +16,11 @@ pub struct Near {
 /// Where both are one, it comes from the clients themselves.
 #[derive(Clone, Copy, Debug, PartialEq, Eq)]
 pub struct Hop {
+    /// The centre of the clients.
     pub member: DcId,
+    /// The centre of the replica that gets the write.
     pub child: DcId,
+    /// The centre of the replica that passes it on, or `child` itself.
     pub parent: DcId,
 }
 
@@ -23,8 +28,11 @@ pub struct Hop {
 /// write to.
 #[derive(Clone, Copy, Debug, PartialEq, Eq)]
 pub struct Quorum {
+    /// The centre of the clients.
     pub dc: DcId,
+    /// The replicas that they ask when they read.
     pub read: DcSet,
+    /// The replicas that they write to.
     pub write: DcSet,
 }
 

@@ -38,6 +38,7 @@ impl Value {
         }
     }
 
+    /// The value of these bytes, 4,096 at most. It takes no more memory.
     pub fn from_vec(bytes: Vec<u8>) -> Value
         requires { length bytes.items ≤ VALUE_LIMIT }
         ensures { result ≡ bytes.items }
@@ -45,6 +46,7 @@ impl Value {
         Value { bytes }
     }
 
+    /// The bytes, as they were given.
     pub fn into_vec(self) -> Vec<u8>
         ensures value { result.items ≡ self }
         ensures limit { length self ≤ VALUE_LIMIT }
@@ -53,6 +55,7 @@ impl Value {
         bytes
     }
 
+    /// The bytes, from the first on.
     pub fn as_slice(&self) -> &[u8]
         ensures value { result.now ≡ self.now }
         ensures limit { length self.now ≤ VALUE_LIMIT }
@@ -60,6 +63,7 @@ impl Value {
         self.bytes.as_slice()
     }
 
+    /// How many bytes there are: 0 to 4,096.
     pub fn len(&self) -> usize
         ensures value { result ≡ length self.now }
         ensures limit { result ≤ VALUE_LIMIT }
@@ -67,6 +71,7 @@ impl Value {
         self.bytes.len()
     }
 
+    /// Whether there is no byte.
     pub fn is_empty(&self) -> bool
         ensures { IsTrue result ↔ (self.now ≡ []) }
     {

@@ -27,12 +27,14 @@ impl Model for Word {
 }
 
 impl Word {
+    /// The word of this text. It takes no more memory.
     pub fn from_string(text: String) -> Word
         ensures { result ≡ string_bytes text }
     {
         Word { text }
     }
 
+    /// The text, as it was given.
     pub fn into_string(self) -> String
         ensures { string_bytes result ≡ self }
     {
@@ -40,12 +42,14 @@ impl Word {
         text
     }
 
+    /// The text.
     pub fn as_str(&self) -> &str
         ensures { result.now ≡ self.now }
     {
         self.text.as_str()
     }
 
+    /// The bytes of the text in UTF-8.
     pub fn as_bytes(&self) -> &[u8]
         ensures { result.now ≡ self.now }
     {
@@ -59,6 +63,7 @@ impl Word {
         self.text.len()
     }
 
+    /// Whether there is no byte.
     pub fn is_empty(&self) -> bool
         ensures { IsTrue result ↔ (self.now ≡ []) }
     {

@@ -1,5 +1,5 @@
 -- The order of stamps.
-use Rattle.std.specs.Prelude.{◌≡◌, ◌≢◌, ◌<◌, ◌⊎◌, Bool, ◌&&◌, ◌||◌}
+use Rattle.std.specs.Prelude.{◌≡◌, ◌≢◌, ◌<◌, ◌⊎◌, Bool, ◌&&◌, ◌||◌, if◌then◌else◌}
 use Rattle.std.specs.Ordering.{nat_cmp, ordering_then, is_eq, is_gt, is_le}
 use Rattle.std.specs.declared.cmp.Ordering.{Ordering}
 use Rattle.std.specs.declared.cmp.Ordering.TheVariants.{Greater}
@@ -20,6 +20,10 @@ IsAbove a b = stamp_cmp a b ≡ Greater
 -- the first stamp isn't above the second
 abbrev pub IsAtMost : Stamp → Stamp → Type 0
 IsAtMost a b = stamp_cmp a b ≢ Greater
+
+-- the greater of two stamps
+abbrev pub greater : Stamp → Stamp → Stamp
+greater a b = if is_gt (stamp_cmp b a) then b else a
 
 -- the first field in which the stamps differ is greater in the first
 abbrev pub IsAboveByFields : Stamp → Stamp → Type 0

@@ -7,7 +7,7 @@ mod stamp;
 
 pub use order::stamps_are_ordered;
 pub use rules::{NumbersOut, may_grant, may_store, next_ticket};
-pub use stamp::Stamp;
+pub use stamp::{Stamp, greater};
 
 #[cfg(test)]
 mod tests;

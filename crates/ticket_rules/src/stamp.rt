@@ -1,3 +1,6 @@
+ghost use Rattle.std.specs.Prelude.{◌≡◌, ◌⊎◌};
+ghost use Rattle.ticket_rules.specs.Stamp.{greater, IsAtMost};
+
 /// The stamp of a ticket, and of the value that was stored with it. Stamps are ordered by these
 /// fields, as they stand here.
 #[derive(Clone, Copy, Debug, PartialEq, Eq, PartialOrd, Ord, Hash)]
@@ -27,4 +30,13 @@ impl Stamp {
             seq: 0,
         }
     }
+}
+
+/// The greater of two stamps.
+pub fn greater(a: &Stamp, b: &Stamp) -> Stamp
+    ensures greater { result ≡ greater a.now b.now }
+    ensures one { (result ≡ a.now) ⊎ (result ≡ b.now) }
+    ensures above { IsAtMost a.now result × IsAtMost b.now result }
+{
+    if b > a { *b } else { *a }
 }
