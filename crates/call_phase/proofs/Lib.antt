@@ -1,1 +1,4 @@
 pub mod Posts
+pub mod Versions
+pub mod Sent
+pub mod Tags

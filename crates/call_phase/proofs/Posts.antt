@@ -1,8 +1,8 @@
 -- The loop over the replicas of a set: what was posted to those below one.
-use Rattle.std.proofs.Common.{◌≡◌, ℕ, ◌+◌, ◌≤◌, Bool, true, false, cond, List, [], ◌∷◌, ◌++◌, map, refl, sym, ap, ◌∙◌, arith}
+use Rattle.std.proofs.Common.{◌≡◌, ℕ, ◌+◌, ◌≤◌, Bool, true, false, cond, [], ◌∷◌, ◌++◌, map, sym, ap, ◌∙◌, arith}
 use Rattle.std.proofs.lemmas.List.{map-append, append-nil}
 use Rattle.span_base.specs.declared.dc_set.DcSet.{DcSet}
-use Rattle.span_base.specs.DcSet.{has, centres_below, centres_of}
+use Rattle.span_base.specs.DcSet.{has, centres_below}
 use Rattle.span_base.proofs.Sets.{centres_below-zero, centres_below-more, centres_of-is}
 use Rattle.wire_msg.specs.declared.message.Message.{Message}
 use Rattle.call_phase.specs.Requests.{post_to, posts_to, posts_from}

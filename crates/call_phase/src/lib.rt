@@ -7,7 +7,7 @@ mod laws;
 mod phase;
 mod request;
 
-pub use best::{Found, take_better};
+pub use best::{Found, Lent, greatest, lend, take_better};
 pub use laws::tags_are_told_apart;
 pub use phase::Phase;
 pub use request::{Request, send_to_each};

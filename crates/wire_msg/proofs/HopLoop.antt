@@ -6,7 +6,7 @@ use Rattle.span_base.specs.declared.dc_set.DcSet.{DcSet}
 use Rattle.span_base.specs.DcSet.{has, centres_below, centres_of}
 use Rattle.span_base.specs.declared.policy.Hop.{Hop}
 use Rattle.wire_msg.specs.declared.fault.Fault.{Fault}
-use Rattle.wire_msg.specs.declared.fault.Fault.TheVariants.{Wrong, Memory}
+use Rattle.wire_msg.specs.declared.fault.Fault.TheVariants.{Wrong, NoMemory}
 use Rattle.wire_msg.specs.Faults.{Reading, ◌>>=◌, byte_at, hops_at}
 use Rattle.wire_msg.specs.Gives.{Fails}
 use Rattle.wire_msg.proofs.Loops.{behind, regroup}
@@ -60,7 +60,7 @@ hops-skip member s front d bytes total below absent so_far =
 pub hops-stops : (member : ℕ) (s : DcSet) (e : Fault) (front : List Hop) (d : ℕ) (bytes : List ℕ) (total : Reading (List Hop)) → d < 16 → has s d ≡ true → Fails e (byte_at 0 255 bytes)
     → behind front (hops_at member (centres_from s d) bytes) ≡ total → Fails e total
 unfolding hops_at behind
-hops-stops member s (Memory e) front d bytes total below there stops so_far = tt
+hops-stops member s (NoMemory e) front d bytes total below there stops so_far = tt
 hops-stops member s (Wrong left) front d bytes total below there stops so_far =
     let one : behind front (hops_at member (centres_from s d) bytes) ≡ Err left = rw (here s d below there, stops) refl in
     sym so_far ∙ one

@@ -7,7 +7,7 @@ use Rattle.span_base.specs.DcSet.{centres_of}
 use Rattle.span_base.specs.declared.policy.Hop.{Hop}
 use Rattle.span_base.specs.declared.policy.Near.{Near}
 use Rattle.wire_msg.specs.declared.fault.Fault.{Fault}
-use Rattle.wire_msg.specs.declared.fault.Fault.TheVariants.{Wrong, Memory}
+use Rattle.wire_msg.specs.declared.fault.Fault.TheVariants.{Wrong, NoMemory}
 use Rattle.wire_msg.specs.Faults.{near_at, hops_at, lane_at, nears_of, hops_of}
 use Rattle.wire_msg.specs.Gives.{Fails}
 
@@ -33,10 +33,10 @@ lane_is s bytes near mid hops rest first second = rw (first, second) refl
 
 pub lane_stops_first : (s : DcSet) (e : Fault) (bytes : List ℕ) → Fails e (near_at bytes) → Fails e (lane_at s bytes)
 unfolding lane_at
-lane_stops_first s (Memory e) bytes stops = tt
+lane_stops_first s (NoMemory e) bytes stops = tt
 lane_stops_first s (Wrong left) bytes stops = rw stops refl
 
 pub lane_stops_later : (s : DcSet) (e : Fault) (bytes : List ℕ) (near : Near) (mid : List ℕ) → near_at bytes ≡ Ok (near, mid) → Fails e (hops_at near.member.0 (centres_of s) mid) → Fails e (lane_at s bytes)
 unfolding lane_at
-lane_stops_later s (Memory e) bytes near mid first stops = tt
+lane_stops_later s (NoMemory e) bytes near mid first stops = tt
 lane_stops_later s (Wrong left) bytes near mid first stops = rw (first, stops) refl

@@ -7,5 +7,8 @@ pub mod Parts
 pub mod PolicyLaws
 pub mod Writing
 pub mod FieldLaws
+pub mod Messages
 pub mod MessageLaws
 pub mod SizeLaws
+pub mod Bulks
+pub mod Sent

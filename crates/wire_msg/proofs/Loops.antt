@@ -2,7 +2,7 @@
 use Rattle.std.proofs.Common.{◌≡◌, ℕ, suc, ◌-◌, ◌+◌, ◌≤◌, ◌<◌, List, [], ◌∷◌, ◌++◌, Ok, Err, refl, sym, ap, ◌∙◌, append_assoc, arith}
 use Rattle.std.proofs.lemmas.List.{append-nil}
 use Rattle.wire_msg.specs.declared.fault.Fault.{Fault}
-use Rattle.wire_msg.specs.declared.fault.Fault.TheVariants.{Wrong, Memory}
+use Rattle.wire_msg.specs.declared.fault.Fault.TheVariants.{Wrong, NoMemory}
 use Rattle.wire_msg.specs.Faults.{Reading, ◌>>=◌, many_at}
 use Rattle.wire_msg.specs.Gives.{Fails}
 
@@ -36,7 +36,7 @@ behind-more one_at front count i bytes x after total lt read so_far =
 pub behind-stops : {X : Type 0} (one_at : List ℕ → Reading X) (e : Fault) (front : List X) (count i : ℕ) (bytes : List ℕ) (total : Reading (List X)) → i < count → Fails e (one_at bytes)
     → behind front (many_at one_at (count - i) bytes) ≡ total → Fails e total
 unfolding many_at behind
-behind-stops one_at (Memory e) front count i bytes total lt stops so_far = tt
+behind-stops one_at (NoMemory e) front count i bytes total lt stops so_far = tt
 behind-stops one_at (Wrong left) front count i bytes total lt stops so_far =
     let k : count - i ≡ suc (count - (i + 1)) = omega arith in
     let one : behind front (many_at one_at (count - i) bytes) ≡ Err left = rw (k, stops) refl in

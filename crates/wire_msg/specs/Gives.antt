@@ -1,7 +1,7 @@
 -- What a part of the decoder answers.
 use Rattle.std.specs.Prelude.{ℕ, ◌≡◌, ◌++◌, ⊤, List, Result, Ok, Err}
 use Rattle.wire_msg.specs.declared.fault.Fault.{Fault}
-use Rattle.wire_msg.specs.declared.fault.Fault.TheVariants.{Wrong, Memory}
+use Rattle.wire_msg.specs.declared.fault.Fault.TheVariants.{Wrong, NoMemory}
 use Rattle.wire_msg.specs.declared.message.Message.{Message}
 use Rattle.span_base.specs.declared.policy.Near.{Near}
 use Rattle.span_base.specs.declared.policy.Hop.{Hop}
@@ -11,7 +11,7 @@ use Rattle.wire_msg.specs.Faults.{nears_of, hops_of, Reading, sorts_of, kind_at,
 -- the fault is the one that reading gives, unless memory ran out
 abbrev pub Fails : {Y : Type 0} → Fault → Result Y ℕ → Type 0
 Fails (Wrong left) reading = reading ≡ Err left
-Fails (Memory e) reading = ⊤
+Fails (NoMemory e) reading = ⊤
 
 -- what was read, and the bytes that are left, are what reading gives
 abbrev pub Gives : {X : Type 0} → Result X Fault → List ℕ → Reading X → Type 0

@@ -9,6 +9,8 @@ use Rattle.wire_msg.specs.declared.tag.Tag.{Tag}
 use Rattle.wire_msg.specs.declared.message.Message.{Message}
 use Rattle.wire_msg.specs.declared.outputs.Post.{Post}
 use Rattle.wire_msg.specs.declared.outputs.View.{View}
+use Rattle.wire_msg.specs.declared.outputs.Reply.{Reply}
+use Rattle.wire_msg.specs.declared.outputs.Reply.TheVariants.{Value, Stored, At, Fenced, Current}
 use Rattle.wire_msg.specs.Fields.{Field, a_tag, a_key, an_epoch, a_frozen_epoch, a_stamp, a_value, a_set, a_replica, a_policy, a_flag, fields_of}
 
 -- the numbers of a tag are in their ranges
@@ -54,3 +56,12 @@ pub record IsLawfulView (view : View) : Type 0 where
   pub key : IsLawfulKey view.key
   pub epoch : 1 ≤ view.epoch
   pub policy : IsSoundPolicy view.policy
+
+-- the fields of a reply are in their ranges
+abbrev pub IsLawfulReply : Reply → Type 0
+IsLawfulReply (Value stamp value) = IsLawfulStamp stamp × (length value ≤ 4096)
+IsLawfulReply (Stored stamp) = IsLawfulStamp stamp
+IsLawfulReply (At epoch) = 1 ≤ epoch
+IsLawfulReply (Fenced held) = IsLawfulStamp held
+IsLawfulReply (Current epoch) = 1 ≤ epoch
+IsLawfulReply reply = Unit {0}

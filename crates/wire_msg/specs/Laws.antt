@@ -12,7 +12,7 @@ use Rattle.ticket_rules.specs.declared.stamp.Stamp.{Stamp}
 use Rattle.wire_msg.specs.declared.tag.Tag.{Tag}
 use Rattle.wire_msg.specs.declared.message.Message.{Message}
 use Rattle.wire_msg.specs.declared.fault.FrameFault.{FrameFault}
-use Rattle.wire_msg.specs.declared.fault.FrameFault.TheVariants.{BadFrame, Memory}
+use Rattle.wire_msg.specs.declared.fault.FrameFault.TheVariants.{BadFrame, NoMemory}
 use Rattle.wire_msg.specs.Fields.{Field, a_tag, a_key, an_epoch, a_frozen_epoch, a_stamp, a_value, a_set, a_replica, a_policy, a_flag, fields_of}
 use Rattle.wire_msg.specs.Lawful.{IsLawful}
 use Rattle.wire_msg.specs.Frames.{frame_of}
@@ -75,6 +75,12 @@ IsFrame frame = (m : Message) × IsLawful m × FitsBytes m × (frame_of m ≡ fr
 -- decoding answers the lawful message that has the frame, or the place of the first fault of a
 -- frame that no lawful message has
 abbrev pub Decodes : List ℕ → Result Message FrameFault → Type 0
-Decodes frame (Ok m) = IsLawful m × (frame_of m ≡ frame)
+Decodes frame (Ok m) = IsLawful m × FitsBytes m × (frame_of m ≡ frame)
 Decodes frame (Err (BadFrame at)) = (fault_place frame ≡ Some at) × ¬ IsFrame frame
-Decodes frame (Err (Memory e)) = ⊤
+Decodes frame (Err (NoMemory e)) = ⊤
+
+-- decoding answers this message, unless memory runs out
+abbrev pub ComesBack : Message → Result Message FrameFault → Type 0
+ComesBack message (Ok m) = m ≡ message
+ComesBack message (Err (BadFrame at)) = ⊥
+ComesBack message (Err (NoMemory e)) = ⊤

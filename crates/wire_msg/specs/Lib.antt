@@ -3,6 +3,8 @@ pub mod Fields
 pub mod Lawful
 pub mod Sizes
 pub mod Outputs
+pub mod Bulks
+pub mod Posts
 pub mod Frames
 pub mod Sound
 pub mod Faults

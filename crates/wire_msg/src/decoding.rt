@@ -15,7 +15,7 @@ pub fn decode(alloc: Global, frame: &[u8]) -> Result<Message, FrameFault>
         Err(Fault::Wrong { left }) => Err(FrameFault::BadFrame {
             at: frame.len() - left,
         }),
-        Err(Fault::Memory(error)) => Err(FrameFault::Memory(error)),
+        Err(Fault::NoMemory(error)) => Err(FrameFault::NoMemory(error)),
     }
 }
 

@@ -12,6 +12,7 @@ mod message;
 mod outputs;
 mod policies;
 mod policy_writer;
+mod posts;
 mod reader;
 mod requests;
 pub mod sizes;
@@ -25,6 +26,7 @@ pub use fault::FrameFault;
 pub use lengths::{frame_len, policy_len};
 pub use message::Message;
 pub use outputs::{Bulk, Outputs, Post, Reply, View};
+pub use posts::{answer_proxy, ask_directory};
 pub use tag::Tag;
 
 #[cfg(test)]

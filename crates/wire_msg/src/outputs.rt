@@ -3,7 +3,7 @@ ghost use Rattle.wire_msg.specs.Outputs.{nothing_out};
 
 use crate::actor::Actor;
 use crate::message::Message;
-use span_base::{KeyId, Listed, Policy, Value};
+use span_base::{DcSet, KeyId, Listed, Policy, Value};
 use std::alloc::Global;
 use ticket_rules::Stamp;
 
@@ -47,6 +47,7 @@ pub enum Reply {
     Full,
     /// The proxy has no number left for a ticket.
     NumbersOut,
+    /// The call was given up before its end: a write may be stored or not.
     GivenUp,
 }
 
@@ -82,4 +83,36 @@ impl Outputs {
 pub struct Bulk {
     pub posts: u32,
     pub bytes: u64,
+}
+
+impl Bulk {
+    ghost use Rattle.wire_msg.specs.Bulks.{no_bulk, bulk_of_one, bulk_to};
+
+    /// Nothing is sent.
+    pub fn none() -> Bulk
+        ensures { result ≡ no_bulk }
+    {
+        Bulk { posts: 0, bytes: 0 }
+    }
+
+    /// One frame of so many bytes.
+    pub fn one(bytes: u32) -> Bulk
+        ensures { result ≡ bulk_of_one bytes }
+    {
+        Bulk {
+            posts: 1,
+            bytes: u64::from(bytes),
+        }
+    }
+
+    /// One frame of so many bytes to each replica of the set.
+    pub fn to_each(set: DcSet, bytes: u32) -> Bulk
+        ensures { result ≡ bulk_to set bytes }
+    {
+        let posts = set.count();
+        Bulk {
+            posts,
+            bytes: u64::from(posts) * u64::from(bytes),
+        }
+    }
 }

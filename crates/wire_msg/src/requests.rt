@@ -10,35 +10,33 @@ impl Reader<'_> {
     pub(crate) fn read(&mut self) -> Result<Message, Fault>
         ensures { GivesKind 1 result self.new.rest.now self.old.rest.now }
     {
-        let tag = self.tag()?;
-        let key = self.key()?;
-        let epoch = self.word(1)?;
-        Ok(Message::Read { tag, key, epoch })
+        Ok(Message::Read {
+            tag: self.tag()?,
+            key: self.key()?,
+            epoch: self.word(1)?,
+        })
     }
 
     #[tactic(auto, unfolding(crate::specs::Faults::kind_at, crate::specs::Faults::fields_at, crate::specs::Faults::field_at))]
     pub(crate) fn ask(&mut self) -> Result<Message, Fault>
         ensures { GivesKind 2 result self.new.rest.now self.old.rest.now }
     {
-        let tag = self.tag()?;
-        let key = self.key()?;
-        let stamp = self.stamp()?;
-        Ok(Message::Ask { tag, key, stamp })
+        Ok(Message::Ask {
+            tag: self.tag()?,
+            key: self.key()?,
+            stamp: self.stamp()?,
+        })
     }
 
     #[tactic(auto, unfolding(crate::specs::Faults::kind_at, crate::specs::Faults::fields_at, crate::specs::Faults::field_at))]
     pub(crate) fn store(&mut self, alloc: Global) -> Result<Message, Fault>
         ensures { GivesKind 3 result self.new.rest.now self.old.rest.now }
     {
-        let tag = self.tag()?;
-        let key = self.key()?;
-        let stamp = self.stamp()?;
-        let value = self.value(alloc)?;
         Ok(Message::Store {
-            tag,
-            key,
-            stamp,
-            value,
+            tag: self.tag()?,
+            key: self.key()?,
+            stamp: self.stamp()?,
+            value: self.value(alloc)?,
         })
     }
 
@@ -46,17 +44,12 @@ impl Reader<'_> {
     pub(crate) fn repair(&mut self, alloc: Global) -> Result<Message, Fault>
         ensures { GivesKind 4 result self.new.rest.now self.old.rest.now }
     {
-        let tag = self.tag()?;
-        let key = self.key()?;
-        let epoch = self.word(1)?;
-        let stamp = self.stamp()?;
-        let value = self.value(alloc)?;
         Ok(Message::Repair {
-            tag,
-            key,
-            epoch,
-            stamp,
-            value,
+            tag: self.tag()?,
+            key: self.key()?,
+            epoch: self.word(1)?,
+            stamp: self.stamp()?,
+            value: self.value(alloc)?,
         })
     }
 
@@ -64,37 +57,34 @@ impl Reader<'_> {
     pub(crate) fn confirm(&mut self) -> Result<Message, Fault>
         ensures { GivesKind 5 result self.new.rest.now self.old.rest.now }
     {
-        let tag = self.tag()?;
-        let key = self.key()?;
-        let stamp = self.stamp()?;
-        Ok(Message::Confirm { tag, key, stamp })
+        Ok(Message::Confirm {
+            tag: self.tag()?,
+            key: self.key()?,
+            stamp: self.stamp()?,
+        })
     }
 
     #[tactic(auto, unfolding(crate::specs::Faults::kind_at, crate::specs::Faults::fields_at, crate::specs::Faults::field_at))]
     pub(crate) fn freeze(&mut self) -> Result<Message, Fault>
         ensures { GivesKind 6 result self.new.rest.now self.old.rest.now }
     {
-        let tag = self.tag()?;
-        let key = self.key()?;
-        let epoch = self.word(1)?;
-        Ok(Message::Freeze { tag, key, epoch })
+        Ok(Message::Freeze {
+            tag: self.tag()?,
+            key: self.key()?,
+            epoch: self.word(1)?,
+        })
     }
 
     #[tactic(auto, unfolding(crate::specs::Faults::kind_at, crate::specs::Faults::fields_at, crate::specs::Faults::field_at))]
     pub(crate) fn seed(&mut self, alloc: Global) -> Result<Message, Fault>
         ensures { GivesKind 7 result self.new.rest.now self.old.rest.now }
     {
-        let tag = self.tag()?;
-        let key = self.key()?;
-        let epoch = self.word(1)?;
-        let stamp = self.stamp()?;
-        let value = self.value(alloc)?;
         Ok(Message::Seed {
-            tag,
-            key,
-            epoch,
-            stamp,
-            value,
+            tag: self.tag()?,
+            key: self.key()?,
+            epoch: self.word(1)?,
+            stamp: self.stamp()?,
+            value: self.value(alloc)?,
         })
     }
 
@@ -102,17 +92,12 @@ impl Reader<'_> {
     pub(crate) fn push(&mut self, alloc: Global) -> Result<Message, Fault>
         ensures { GivesKind 8 result self.new.rest.now self.old.rest.now }
     {
-        let tag = self.tag()?;
-        let key = self.key()?;
-        let stamp = self.stamp()?;
-        let onward = self.set()?;
-        let value = self.value(alloc)?;
         Ok(Message::Push {
-            tag,
-            key,
-            stamp,
-            onward,
-            value,
+            tag: self.tag()?,
+            key: self.key()?,
+            stamp: self.stamp()?,
+            onward: self.set()?,
+            value: self.value(alloc)?,
         })
     }
 
@@ -120,24 +105,21 @@ impl Reader<'_> {
     pub(crate) fn lookup(&mut self) -> Result<Message, Fault>
         ensures { GivesKind 9 result self.new.rest.now self.old.rest.now }
     {
-        let tag = self.tag()?;
-        let key = self.key()?;
-        Ok(Message::Lookup { tag, key })
+        Ok(Message::Lookup {
+            tag: self.tag()?,
+            key: self.key()?,
+        })
     }
 
     #[tactic(auto, unfolding(crate::specs::Faults::kind_at, crate::specs::Faults::fields_at, crate::specs::Faults::field_at))]
     pub(crate) fn switch(&mut self) -> Result<Message, Fault>
         ensures { GivesKind 10 result self.new.rest.now self.old.rest.now }
     {
-        let tag = self.tag()?;
-        let key = self.key()?;
-        let closing = self.word(1)?;
-        let opening = self.word(1)?;
         Ok(Message::Switch {
-            tag,
-            key,
-            closing,
-            opening,
+            tag: self.tag()?,
+            key: self.key()?,
+            closing: self.word(1)?,
+            opening: self.word(1)?,
         })
     }
 }

@@ -26,6 +26,18 @@ const RELAY: [u8; 9] = [2, 1, 0, 3, 1, 2, 0, 0, 0];
 // f is 1; centre 5 reads from 0 to 2 and writes to 0 to 3.
 const STRONG: [u8; 10] = [3, 1, 0, 15, 1, 5, 0, 7, 0, 15];
 
+// f is 1; centres 0 to 7 read from 0 to 2 and write to 0 to 3.
+const STRONG_OF_EIGHT: [u8; 45] = [
+    3, 1, 0, 15, 8, 0, 0, 7, 0, 15, 1, 0, 7, 0, 15, 2, 0, 7, 0, 15, 3, 0, 7, 0, 15, 4, 0, 7, 0, 15,
+    5, 0, 7, 0, 15, 6, 0, 7, 0, 15, 7, 0, 7, 0, 15,
+];
+
+// f is 1, replicas are in centres 0 and 1; centres 0 to 7 read at 0, which passes their writes on.
+const RELAY_OF_EIGHT: [u8; 37] = [
+    2, 1, 0, 3, 8, 0, 0, 0, 0, 1, 0, 0, 0, 2, 0, 0, 0, 3, 0, 0, 0, 4, 0, 0, 0, 5, 0, 0, 0, 6, 0, 0,
+    0, 7, 0, 0, 0,
+];
+
 fn tag() -> Tag {
     Tag {
         call: Call { proxy: 1, seq: 4 },
@@ -110,18 +122,24 @@ fn joined(alloc: Global, pieces: &[&[u8]]) -> Result<Vec<u8>, AllocError> {
     Ok(all)
 }
 
-// The pieces are the frame of the message, and of its length.
+// The message of the pieces, which has this frame again, and its length.
+fn comes_back(rt: &impl Abort, alloc: Global, pieces: &[&[u8]]) -> Result<Message, Fail> {
+    let frame = joined(alloc, pieces)?;
+    let message = decode(alloc, frame.as_slice())?;
+    assert_eq!(rt; frame_len(&message) as usize, frame.len());
+    assert_eq!(rt; encode(alloc, &message)?.as_slice(), frame.as_slice());
+    Ok(message)
+}
+
+// The pieces are the frame of the message.
 fn is_frame(
     rt: &impl Abort,
     alloc: Global,
     pieces: &[&[u8]],
     expected: Message,
 ) -> Result<(), Fail> {
-    let frame = joined(alloc, pieces)?;
-    let message = decode(alloc, frame.as_slice())?;
+    let message = comes_back(rt, alloc, pieces)?;
     assert!(rt; message == expected);
-    assert_eq!(rt; frame_len(&message) as usize, frame.len());
-    assert_eq!(rt; encode(alloc, &message)?.as_slice(), frame.as_slice());
     Ok(())
 }
 
@@ -295,6 +313,32 @@ fn answers_of_the_directory_come_back(rt: HostRuntime) -> Result<(), Fail> {
         epoch: 9,
     };
     is_frame(&rt, alloc, &[&[16], &TAG, &KEY, &[1], &EPOCH], switched)
+}
+
+// The longest value, and policies of as many members as there may be.
+#[test]
+fn long_frames_come_back(rt: HostRuntime) -> Result<(), Fail> {
+    let alloc = rt.alloc();
+    let value = [0xa5; 4096];
+    comes_back(
+        &rt,
+        alloc,
+        &[&[7], &TAG, &KEY, &EPOCH, &STAMP, &[0x10, 0x00], &value],
+    )?;
+    comes_back(
+        &rt,
+        alloc,
+        &[
+            &[15],
+            &TAG,
+            &KEY,
+            &EPOCH,
+            &STRONG_OF_EIGHT,
+            &EPOCH,
+            &RELAY_OF_EIGHT,
+        ],
+    )?;
+    Ok(())
 }
 
 #[test]
