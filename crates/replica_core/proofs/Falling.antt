@@ -11,9 +11,8 @@ use Rattle.ticket_rules.proofs.StampOrder.{IsAbove-irrefl, IsAbove-trans}
 use Rattle.wire_msg.specs.declared.message.Message.{Message}
 use Rattle.wire_msg.specs.declared.message.Message.TheVariants.{Read, Ask, Store, Repair, Confirm, Freeze, Seed, Push, Lookup, Switch, Have, Yes, Held, Gone, Here, Switched}
 use Rattle.replica_core.specs.declared.kept.Kept.{Kept}
-use Rattle.replica_core.specs.Keys.{key_of}
 use Rattle.replica_core.specs.Keeping.{opening, is_over, merge, after_merge, kept_after}
-use Rattle.replica_core.specs.Rule.{State, kept_at, step_at, step}
+use Rattle.replica_core.specs.Rule.{State, kept_at, request_key, step_at, step}
 use Rattle.replica_core.specs.Rising.{Rises}
 
 at_most_itself : (a : Stamp) → IsAtMost a a
@@ -123,4 +122,4 @@ step_at_rises state message (Some at) key = set_rises state.kept at.0 key.0 (kep
 
 -- nothing that is kept falls with a message
 pub step_rises : (state : State) (message : Message) (key : KeyId) → Rises (kept_at state key) (kept_at (step state message).state key)
-step_rises state message key = step_at_rises state message (key_of message) key
+step_rises state message key = step_at_rises state message (request_key message) key

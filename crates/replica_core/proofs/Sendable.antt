@@ -5,15 +5,16 @@ use Rattle.std.proofs.lemmas.List.Elements.{All-nil, All-cons, All-append, All-f
 use Rattle.span_base.specs.declared.ids.KeyId.{KeyId}
 use Rattle.span_base.specs.DcSet.{centres_of}
 use Rattle.ticket_rules.specs.declared.stamp.Stamp.{Stamp}
-use Rattle.ticket_rules.specs.Stamp.{stamp_cmp, grants, stores}
+use Rattle.ticket_rules.specs.Stamp.{stamp_cmp, greater, grants, stores}
 use Rattle.wire_msg.specs.declared.tag.Tag.{Tag}
 use Rattle.wire_msg.specs.declared.message.Message.{Message}
 use Rattle.wire_msg.specs.declared.message.Message.TheVariants.{Read, Ask, Store, Repair, Confirm, Freeze, Seed, Push, Lookup, Switch, Have, Yes, Held, Gone, Here, Switched}
 use Rattle.wire_msg.specs.declared.outputs.Post.{Post}
 use Rattle.wire_msg.specs.Lawful.{IsLawful, AreLawful, IsLawfulTag, IsLawfulKey, IsLawfulStamp}
+use Rattle.wire_msg.specs.Posts.{to_proxy}
 use Rattle.replica_core.specs.declared.kept.Kept.{Kept}
-use Rattle.replica_core.specs.Keeping.{is_over, greater, merge, after_merge, kept_after}
-use Rattle.replica_core.specs.Answering.{to_proxy, gone, have, done, held, push_to, pushes_to, answers}
+use Rattle.replica_core.specs.Keeping.{is_over, merge, after_merge, kept_after}
+use Rattle.replica_core.specs.Answering.{gone, have, done, held, push_to, pushes_to, answers}
 use Rattle.replica_core.specs.Rule.{IsLawfulKept}
 
 -- a post's message is lawful

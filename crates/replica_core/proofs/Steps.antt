@@ -8,15 +8,16 @@ use Rattle.span_base.specs.declared.ids.KeyId.{KeyId}
 use Rattle.wire_msg.specs.declared.message.Message.{Message}
 use Rattle.wire_msg.specs.declared.outputs.Post.{Post}
 use Rattle.wire_msg.specs.Lawful.{IsLawful, AreLawful}
+use Rattle.wire_msg.specs.Posts.{AreAnswersTo}
 use Rattle.replica_core.specs.declared.kept.Kept.{Kept}
-use Rattle.replica_core.specs.Keys.{key_of}
 use Rattle.replica_core.specs.Keeping.{opening, kept_after}
 use Rattle.replica_core.specs.Answering.{answers}
-use Rattle.replica_core.specs.Rule.{State, IsLawfulKept, IsLawfulState, opening_state}
+use Rattle.replica_core.specs.Rule.{State, IsLawfulKept, IsLawfulState, opening_state, request_key}
 use Rattle.replica_core.proofs.Sendable.{answers_lawful, kept_after_lawful}
+use Rattle.replica_core.proofs.Addressed.{answers_are}
 
 -- the message's key is one of those kept
-pub key_within : (message : Message) (key : KeyId) (keys : ℕ) → IfSome (key_of message) (λ k. k.0 < keys) → key_of message ≡ Some key → key.0 < keys
+pub key_within : (message : Message) (key : KeyId) (keys : ℕ) → IfSome (request_key message) (λ k. k.0 < keys) → request_key message ≡ Some key → key.0 < keys
 key_within message key keys h e = let P : Option KeyId → Type 0 = λ o. IfSome o (λ k. k.0 < keys) in subst P e h
 
 -- nothing is kept yet that couldn't be sent
@@ -47,3 +48,8 @@ state_lawful state message index old new s m h e n = record {
 pub posts_lawful : (state : State) (message : Message) (index : ℕ) (old : Kept) (posts : List Post) → IsLawfulState state → IsLawful message → index < length state.kept →
     old ≡ get_or state.kept index old → posts ≡ answers state.number old message → AreLawful posts
 posts_lawful state message index old posts s m h e p = subst AreLawful (sym p) (answers_lawful state.number old message s.number (lawful_at state index old s h e) m)
+
+-- and is for those who wait for it
+pub posts_are : (state : State) (message : Message) (index : ℕ) (old : Kept) (posts : List Post) → IsLawfulState state → IsLawful message → index < length state.kept →
+    old ≡ get_or state.kept index old → posts ≡ answers state.number old message → AreAnswersTo message posts
+posts_are state message index old posts s m h e p = subst (λ (ps : List Post). AreAnswersTo message ps) (sym p) (answers_are state.number old message (lawful_at state index old s h e).value m)

@@ -1,26 +1,18 @@
 -- What a replica puts out for a message, by what it kept of the key before.
-use Rattle.std.specs.Prelude.{ℕ, if◌then◌else◌, List, [], ◌∷◌, ◌++◌, map, None}
+use Rattle.std.specs.Prelude.{ℕ, if◌then◌else◌, List, [], ◌++◌, map}
 use Rattle.span_base.specs.declared.ids.KeyId.{KeyId}
 use Rattle.span_base.specs.declared.dc_set.DcSet.{DcSet}
 use Rattle.span_base.specs.DcSet.{centres_of, no_centre}
 use Rattle.ticket_rules.specs.declared.stamp.Stamp.{Stamp}
-use Rattle.ticket_rules.specs.Stamp.{grants, stores}
+use Rattle.ticket_rules.specs.Stamp.{greater, grants, stores}
 use Rattle.wire_msg.specs.declared.tag.Tag.{Tag}
-use Rattle.wire_msg.specs.declared.actor.Actor.TheVariants.{Replica, Proxy}
+use Rattle.wire_msg.specs.declared.actor.Actor.TheVariants.{Replica}
 use Rattle.wire_msg.specs.declared.message.Message.{Message}
 use Rattle.wire_msg.specs.declared.message.Message.TheVariants.{Read, Ask, Store, Repair, Confirm, Freeze, Seed, Push, Lookup, Switch, Have, Yes, Held, Gone, Here, Switched}
 use Rattle.wire_msg.specs.declared.outputs.Post.{Post}
-use Rattle.wire_msg.specs.declared.outputs.Outputs.{Outputs}
+use Rattle.wire_msg.specs.Posts.{to_proxy}
 use Rattle.replica_core.specs.declared.kept.Kept.{Kept}
-use Rattle.replica_core.specs.Keeping.{is_over, greater}
-
--- these posts put out, and nothing else
-abbrev pub only_posts : List Post → Outputs
-only_posts posts = record { posts = posts; ticket = None; view = None; end = None }
-
--- the answer's post, to the proxy of its tag
-abbrev pub to_proxy : Tag → Message → List Post
-to_proxy tag message = record { to = Proxy tag.call.proxy; message = message } ∷ []
+use Rattle.replica_core.specs.Keeping.{is_over}
 
 -- that the epoch is over
 abbrev pub gone : ℕ → Kept → Tag → Message

@@ -2,7 +2,7 @@
 use Rattle.std.specs.Prelude.{ℕ, Bool, ◌&&◌, not, nat_le, max, if◌then◌else◌, List, []}
 use Rattle.std.specs.Ordering.{is_gt}
 use Rattle.ticket_rules.specs.declared.stamp.Stamp.{Stamp}
-use Rattle.ticket_rules.specs.Stamp.{stamp_cmp, stamp_zero, grants, stores}
+use Rattle.ticket_rules.specs.Stamp.{stamp_cmp, stamp_zero, greater, grants, stores}
 use Rattle.wire_msg.specs.declared.message.Message.{Message}
 use Rattle.wire_msg.specs.declared.message.Message.TheVariants.{Read, Ask, Store, Repair, Confirm, Freeze, Seed, Push, Lookup, Switch, Have, Yes, Held, Gone, Here, Switched}
 use Rattle.replica_core.specs.declared.kept.Kept.{Kept}
@@ -10,10 +10,6 @@ use Rattle.replica_core.specs.declared.kept.Kept.{Kept}
 -- what is kept of a key at first
 abbrev pub opening : Kept
 opening = record { version = stamp_zero; value = []; mark = stamp_zero; fence = stamp_zero; frozen = 0 }
-
--- the greater of two stamps
-abbrev pub greater : Stamp → Stamp → Stamp
-greater a b = if is_gt (stamp_cmp b a) then b else a
 
 -- whether the epoch is over
 abbrev pub is_over : Kept → ℕ → Bool

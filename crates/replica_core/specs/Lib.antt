@@ -1,6 +1,6 @@
-pub mod Keys
 pub mod Keeping
 pub mod Answering
+pub mod Verdict
 pub mod Rule
 pub mod Taking
 pub mod Rising

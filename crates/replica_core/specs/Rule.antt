@@ -1,14 +1,14 @@
 -- A replica's state, and what it does with a message.
-use Rattle.std.specs.Prelude.{ℕ, ◌<◌, ◌≤◌, List, length, replicate, slice_set, slice_index_or, All, Option, Some, None}
+use Rattle.std.specs.Prelude.{ℕ, nat_le, if◌then◌else◌, ◌<◌, ◌≤◌, List, length, replicate, slice_set, slice_index_or, All, Option, Some, None}
 use Rattle.span_base.specs.declared.ids.KeyId.{KeyId}
 use Rattle.wire_msg.specs.declared.message.Message.{Message}
-use Rattle.wire_msg.specs.declared.outputs.Outputs.{Outputs}
 use Rattle.wire_msg.specs.Lawful.{IsLawfulStamp}
-use Rattle.wire_msg.specs.Outputs.{nothing_out}
+use Rattle.wire_msg.specs.Fields.{kind_of}
+use Rattle.wire_msg.specs.Posts.{key_of}
+use Rattle.wire_msg.specs.Outputs.{Step, nothing_out, only_posts}
 use Rattle.replica_core.specs.declared.kept.Kept.{Kept}
-use Rattle.replica_core.specs.Keys.{key_of}
 use Rattle.replica_core.specs.Keeping.{opening, kept_after}
-use Rattle.replica_core.specs.Answering.{only_posts, answers}
+use Rattle.replica_core.specs.Answering.{answers}
 
 -- the replica's number, and what it keeps of the keys 0, 1 and so on
 pub record State : Type 0 where
@@ -23,13 +23,12 @@ opening_state number keys = record { number = number; kept = replicate keys open
 abbrev pub kept_at : State → KeyId → Kept
 kept_at state key = slice_index_or state.kept key.0 opening
 
--- the state after a message, and what is put out
-pub record Step : Type 0 where
-  pub state : State
-  pub out : Outputs
+-- the key of a request to a replica: a message of the kinds 1 to 8
+abbrev pub request_key : Message → Option KeyId
+request_key message = if nat_le (kind_of message) 8 then key_of message else None
 
--- the step on the message's key
-abbrev pub step_at : State → Message → Option KeyId → Step
+-- the step on the request's key
+abbrev pub step_at : State → Message → Option KeyId → Step State
 step_at state message None = record { state = state; out = nothing_out }
 step_at state message (Some key) = record {
   state = record { number = state.number; kept = slice_set state.kept key.0 (kept_after (kept_at state key) message) };
@@ -37,8 +36,8 @@ step_at state message (Some key) = record {
 }
 
 -- what a replica does with a message
-abbrev pub step : State → Message → Step
-step state message = step_at state message (key_of message)
+abbrev pub step : State → Message → Step State
+step state message = step_at state message (request_key message)
 
 -- what is kept can be sent
 pub record IsLawfulKept (kept : Kept) : Type 0 where

@@ -3,8 +3,8 @@ use Rattle.std.specs.Prelude.{◌≡◌, ℕ, ◌+◌, ◌<◌, ◌≤◌, Bool,
 use Rattle.wire_msg.specs.declared.message.Message.{Message}
 use Rattle.wire_msg.specs.Fields.{kind_of}
 use Rattle.wire_msg.specs.Sizes.{frame_size}
-use Rattle.replica_core.specs.declared.taker.TakeFault.{TakeFault}
-use Rattle.replica_core.specs.declared.taker.TakeFault.TheVariants.{Memory, DiskFault, Shut, Full}
+use Rattle.replica_core.specs.declared.journal.TakeFault.{TakeFault}
+use Rattle.replica_core.specs.declared.journal.TakeFault.TheVariants.{NoMemory, DiskFault, Shut, Full}
 
 -- the bytes of a message's record in a journal: 3, and its frame
 abbrev pub record_size : Message → ℕ
@@ -21,7 +21,7 @@ IsTooMuch size message bytes = IsLogged message × (bytes ≡ size + record_size
 -- whether it is a fault of the disk
 abbrev pub is_disk_fault : {T : Type 0} → Result T TakeFault → Bool
 is_disk_fault (Ok value) = false
-is_disk_fault (Err (Memory error)) = false
+is_disk_fault (Err (NoMemory error)) = false
 is_disk_fault (Err DiskFault) = true
 is_disk_fault (Err Shut) = false
 is_disk_fault (Err (Full bytes)) = false
@@ -29,7 +29,7 @@ is_disk_fault (Err (Full bytes)) = false
 -- the message was refused before the disk had anything to do
 abbrev pub IsRefusal : {T : Type 0} → Result T TakeFault → Type 0
 IsRefusal (Ok value) = ⊥
-IsRefusal (Err (Memory error)) = Unit {0}
+IsRefusal (Err (NoMemory error)) = Unit {0}
 IsRefusal (Err DiskFault) = ⊥
 IsRefusal (Err Shut) = Unit {0}
 IsRefusal (Err (Full bytes)) = Unit {0}

@@ -1,5 +1,5 @@
 ghost use Rattle.std.specs.Prelude.{◌≡◌, OnOk, OnErr};
-ghost use Rattle.replica_core.specs.Keeping.{opening, greater, is_over, merge};
+ghost use Rattle.replica_core.specs.Keeping.{opening, is_over, merge};
 
 use span_base::Value;
 use std::alloc::{AllocError, Global};
@@ -10,6 +10,7 @@ use ticket_rules::Stamp;
 pub struct Kept {
     /// The stamp of the value, zero where none was stored yet.
     pub version: Stamp,
+    /// Empty where none was stored yet; at most 4,096 bytes.
     pub value: Value,
     /// The greatest stamp whose value is known to be stored at a whole write quorum.
     pub mark: Stamp,
@@ -51,11 +52,4 @@ impl Kept {
         }
         Ok(())
     }
-}
-
-/// The greater of two stamps.
-pub(crate) fn greater(a: &Stamp, b: &Stamp) -> Stamp
-    ensures { result ≡ greater a.now b.now }
-{
-    if b > a { *b } else { *a }
 }

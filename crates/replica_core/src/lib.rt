@@ -1,21 +1,22 @@
 //! A replica of the store: what it keeps of each key, and what it does with each message.
 #![tactic(auto)]
 
-mod answers;
-mod bulks;
+mod answer;
+mod bulk;
+mod journal;
 mod kept;
-mod keys;
 mod laws;
-mod pushes;
+mod push;
 mod replica;
-mod taker;
-mod takes;
+mod request;
+mod verdict;
 
+pub use journal::{TakeFault, Taker};
 pub use kept::Kept;
-pub use keys::key_of;
 pub use laws::nothing_falls;
-pub use replica::Replica;
-pub use taker::{TakeFault, Taker};
+pub use replica::{Replica, request_key};
 
+#[cfg(test)]
+mod fixtures;
 #[cfg(test)]
 mod tests;

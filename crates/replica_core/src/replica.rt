@@ -1,12 +1,12 @@
 ghost use Rattle.std.specs.Prelude.{◌≡◌, ◌<◌, ◌≤◌, length, IfOk, OnOk, OnErr, IfSome};
 ghost use Rattle.wire_msg.specs.Lawful.{IsLawful, AreLawful};
-ghost use Rattle.wire_msg.specs.Outputs.{nothing_out};
+ghost use Rattle.wire_msg.specs.Outputs.{nothing_out, only_posts, IsMade};
+ghost use Rattle.wire_msg.specs.Posts.{AreAnswersTo};
 ghost use Rattle.wire_msg.specs.Sizes.{bulk_of};
-ghost use Rattle.replica_core.specs.Keys.{key_of};
-ghost use Rattle.replica_core.specs.Rule.{opening_state, step};
+ghost use Rattle.replica_core.specs.Rule.{opening_state, request_key, step};
 
 use crate::kept::Kept;
-use crate::keys::key_of;
+use span_base::KeyId;
 use std::alloc::{AllocError, Global};
 use std::marker::Model;
 use wire_msg::{Bulk, Message, Outputs};
@@ -69,14 +69,17 @@ impl Replica {
     ) -> Result<(), AllocError>
         requires lawful { IsLawful message.now }
         requires empty { out.old ≡ nothing_out }
-        requires key { IfSome (key_of message.now) (λ key. key.0 < length self.old.kept) }
-        ensures ok { OnOk result ((self.new ≡ (step self.old message.now).state) × (out.new ≡ (step self.old message.now).out)) }
+        requires key { IfSome (request_key message.now) (λ key. key.0 < length self.old.kept) }
+        ensures ok { OnOk result (IsMade (step self.old message.now) self.new out.new) }
         ensures err { OnErr result ((self.new ≡ self.old) × (out.new ≡ out.old)) }
         ensures lawful { OnOk result (AreLawful out.new.posts) }
+        ensures posts { OnOk result (AreAnswersTo message.now out.new.posts) }
+        // No ticket, no view and no end.
+        ensures only { OnOk result (out.new ≡ only_posts out.new.posts) }
         ensures number { self.new.number ≡ self.old.number }
         ensures keys { length self.new.kept ≡ length self.old.kept }
     {
-        if let Some(key) = key_of(message) {
+        if let Some(key) = request_key(message) {
             let number = self.number;
             let kept = &mut self.kept[usize::from(key.0)];
             kept.take(alloc, number, message, out)?;
@@ -86,12 +89,36 @@ impl Replica {
 
     /// How much `take` puts out for this message. It takes no memory.
     pub fn bulk(&self, message: &Message) -> Bulk
-        requires { IfSome (key_of message.now) (λ key. key.0 < length self.now.kept) }
+        requires { IfSome (request_key message.now) (λ key. key.0 < length self.now.kept) }
         ensures { result ≡ bulk_of (step self.now message.now).out.posts }
     {
-        match key_of(message) {
+        match request_key(message) {
             Some(key) => self.kept[usize::from(key.0)].bulk(message),
-            None => Bulk { posts: 0, bytes: 0 },
+            None => Bulk::none(),
         }
+    }
+}
+
+/// The key of a request to a replica. Any other message is of no concern to replicas.
+pub fn request_key(message: &Message) -> Option<KeyId>
+    ensures { result ≡ request_key message.now }
+{
+    match message {
+        Message::Read { key, .. }
+        | Message::Ask { key, .. }
+        | Message::Store { key, .. }
+        | Message::Repair { key, .. }
+        | Message::Confirm { key, .. }
+        | Message::Freeze { key, .. }
+        | Message::Seed { key, .. }
+        | Message::Push { key, .. } => Some(*key),
+        Message::Lookup { .. }
+        | Message::Switch { .. }
+        | Message::Have { .. }
+        | Message::Yes { .. }
+        | Message::Held { .. }
+        | Message::Gone { .. }
+        | Message::Here { .. }
+        | Message::Switched { .. } => None,
     }
 }

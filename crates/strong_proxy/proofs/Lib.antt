@@ -1,5 +1,10 @@
 pub mod Rows
 pub mod Sent
 pub mod Ranges
+pub mod Sendable
+pub mod Addressed
+pub mod Steps
 pub mod Endings
+pub mod Asked
 pub mod Taken
+pub mod Quorum

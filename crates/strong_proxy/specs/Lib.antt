@@ -1,10 +1,4 @@
-pub mod Member
-pub mod Answers
-pub mod Verdict
-pub mod Effects
+pub mod Counting
+pub mod Rule
+pub mod Lawful
 pub mod Parts
-pub mod Steps
-pub mod Endings
-pub mod LawfulCall
-pub mod Lent
-pub mod Bulks

@@ -1,11 +1,11 @@
-ghost use Rattle.std.specs.Prelude.{◌≡◌, IfOk, OnOk, OnErr, Some, IsSome, is_some, not, ◌&&◌};
-ghost use Rattle.strong_proxy.specs.Endings.{has_ended};
-ghost use Rattle.wire_msg.specs.Outputs.{nothing_out};
-ghost use Rattle.wire_msg.specs.Lawful.{IsLawful, IsLawfulTag, IsLawfulStamp, IsLawfulView, AreLawful};
+ghost use Rattle.std.specs.Prelude.{◌≡◌, IfOk, OnOk, OnErr, Some, IsSome, IfSome, is_some, not, ◌&&◌};
+ghost use Rattle.strong_proxy.specs.Lawful.{has_ended};
+ghost use Rattle.wire_msg.specs.Outputs.{nothing_out, IsMade};
+ghost use Rattle.wire_msg.specs.Lawful.{IsLawful, IsLawfulTag, IsLawfulStamp, IsLawfulView, IsLawfulReply, AreLawful};
 ghost use Rattle.wire_msg.specs.Sizes.{bulk_of};
-ghost use Rattle.strong_proxy.specs.Member.{member_of};
-ghost use Rattle.strong_proxy.specs.Steps.{step, opened_read, opened_write};
-ghost use Rattle.strong_proxy.specs.LawfulCall.{IsLawfulReply};
+ghost use Rattle.span_base.specs.PolicyParts.{member_of};
+ghost use Rattle.wire_msg.specs.Posts.{ArePostsOf};
+ghost use Rattle.strong_proxy.specs.Rule.{leg_replicas, step, opened_read, opened_write};
 
 use crate::state::{CallState, Work};
 use span_base::{DcId, KeyId, VALUE_LIMIT, Value};
@@ -22,7 +22,7 @@ pub struct StrongCall {
 
 impl Model for StrongCall {
     ghost use Rattle.strong_proxy.specs.declared.state.CallState.{CallState};
-    ghost use Rattle.strong_proxy.specs.LawfulCall.{IsLawfulCall};
+    ghost use Rattle.strong_proxy.specs.Lawful.{IsLawfulCall};
 
     ghost Value = { CallState };
 
@@ -46,9 +46,10 @@ impl StrongCall {
         requires view { IsLawfulView view.now }
         requires member { IsSome (member_of view.now.policy at.0) }
         requires empty { out.old ≡ nothing_out }
-        ensures ok { IfOk result (λ call. opened_read tag at view.now ≡ Some (record { call = call; out = out.new })) }
+        ensures ok { IfOk result (λ call. opened_read tag at view.now ≡ Some (record { state = call; out = out.new })) }
         ensures err { OnErr result (out.new ≡ out.old) }
         ensures lawful { OnOk result (AreLawful out.new.posts) }
+        ensures posts { IfOk result (λ call. ArePostsOf view.now.key (leg_replicas call.progress.leg) out.new.posts) }
         ensures key { IfOk result (λ call. call.progress.key ≡ view.now.key) }
     {
         Ok(StrongCall {
@@ -72,9 +73,10 @@ impl StrongCall {
         requires member { IsSome (member_of view.now.policy at.0) }
         requires stamp { IsLawfulStamp stamp }
         requires empty { out.old ≡ nothing_out }
-        ensures ok { IfOk result (λ call. opened_write tag at view.now stamp value.now ≡ Some (record { call = call; out = out.new })) }
+        ensures ok { IfOk result (λ call. opened_write tag at view.now stamp value.now ≡ Some (record { state = call; out = out.new })) }
         ensures err { OnErr result (out.new ≡ out.old) }
         ensures lawful { OnOk result (AreLawful out.new.posts) }
+        ensures posts { IfOk result (λ call. ArePostsOf view.now.key (leg_replicas call.progress.leg) out.new.posts) }
         ensures key { IfOk result (λ call. call.progress.key ≡ view.now.key) }
     {
         prove!(value.len() <= VALUE_LIMIT);
@@ -91,9 +93,17 @@ impl StrongCall {
         self.state.progress.key
     }
 
+    /// The tag of the call's present phase, which tells its messages from those of other calls
+    /// and phases.
+    pub fn tag(&self) -> Tag
+        ensures { result ≡ self.now.progress.phase.tag }
+    {
+        self.state.progress.phase.tag
+    }
+
     /// Takes a message. `view` is what the proxy knows of the call's key once it took notice of
     /// the message, `seen` the greatest number that the proxy saw.
-    #[tactic(auto, unfolding(crate::specs::Steps::step))]
+    #[tactic(auto, unfolding(crate::specs::Rule::step))]
     pub fn take(
         &mut self,
         alloc: Global,
@@ -106,9 +116,10 @@ impl StrongCall {
         requires view { IsLawfulView view.now }
         requires key { view.now.key ≡ self.old.progress.key }
         requires empty { out.old ≡ nothing_out }
-        ensures ok { OnOk result (record { call = self.new; out = out.new } ≡ step self.old message.now view.now seen) }
+        ensures ok { OnOk result (IsMade (step self.old message.now view.now seen) self.new out.new) }
         ensures err { OnErr result ((self.new ≡ self.old) × (out.new ≡ out.old)) }
-        ensures lawful { OnOk result (AreLawful out.new.posts × IsLawfulReply out.new.end) }
+        ensures lawful { OnOk result (AreLawful out.new.posts × IfSome out.new.ticket IsLawfulStamp × IfSome out.new.end IsLawfulReply) }
+        ensures posts { OnOk result (ArePostsOf self.old.progress.key (leg_replicas self.new.progress.leg) out.new.posts) }
         ensures key { self.new.progress.key ≡ self.old.progress.key }
         // A call ends once, and tells it.
         ensures ends { OnOk result (is_some out.new.end ≡ (has_ended self.new.progress.stage && not (has_ended self.old.progress.stage))) }
@@ -121,7 +132,7 @@ impl StrongCall {
     }
 
     /// How much `take` puts out. It takes no memory.
-    #[tactic(auto, unfolding(crate::specs::Steps::step))]
+    #[tactic(auto, unfolding(crate::specs::Rule::step))]
     pub fn bulk(&self, message: &Message, view: &View, seen: u64) -> Bulk
         requires lawful { IsLawful message.now }
         requires view { IsLawfulView view.now }
@@ -131,7 +142,7 @@ impl StrongCall {
         if self.state.counts(message) {
             self.state.answer_bulk(message, view, seen)
         } else {
-            Bulk { posts: 0, bytes: 0 }
+            Bulk::none()
         }
     }
 }

@@ -1,52 +1,78 @@
 //! What the tests share: one key at three replicas, of which one may stop, and its proxy in
-//! centre 0.
-ghost use Rattle.std.specs.Prelude.{◌≡◌, ◌<◌, ◌≤◌};
+//! centre 0, written short.
+
+ghost use Rattle.std.specs.Prelude.{◌≡◌, ◌<◌, ◌≤◌, length, IfOk};
 ghost use Rattle.wire_msg.specs.Lawful.{IsLawful, IsLawfulTag, IsLawfulStamp};
 
-use super::*;
-use span_base::{Call, DcId, DcSet, KeyId, Listed, Policy, Quorum, Value, is_sound};
+use span_base::{Call, DcId, DcSet, KeyId, Listed, Policy, Quorum, Value};
 use std::alloc::{AllocError, Global};
-use std::process::Abort;
 use ticket_rules::Stamp;
-use wire_msg::{Actor, Message, Outputs, Tag, View};
+use wire_msg::{Message, Tag, View};
 
 pub const KEY: KeyId = KeyId(9);
 
-pub const CALL: Call = Call { proxy: 3, seq: 7 };
+/// An answer: its phase, its replica, and what it tells.
+#[derive(Clone, Copy)]
+pub enum Heard {
+    /// The numbers of a version and a mark.
+    Have(u8, u8, u8),
+    Yes(u8, u8),
+    /// The number of a stamp.
+    Held(u8, u8, u8),
+    /// The frozen epoch.
+    Gone(u8, u8, u8),
+    /// The epoch of the view that the proxy has from then on, and its one member.
+    Here(u8, u32, u8),
+}
 
+/// An answer that never counts: no phase has this number.
+pub const STRAY: Heard = Heard::Yes(99, 0);
+
+/// Phases are counted from 1.
 pub fn tag(phase: u8) -> Tag
-    requires { 1 ≤ phase }
     ensures lawful { IsLawfulTag result }
-    ensures phase { result.phase ≡ phase }
+    ensures phase { 1 ≤ phase → result.phase ≡ phase }
 {
     Tag {
-        call: CALL,
+        call: Call { proxy: 3, seq: 7 },
         slot: 2,
         generation: 4,
-        phase,
+        phase: phase.max(1),
     }
 }
 
 /// A stamp of another proxy in epoch 1.
-pub fn stamp(number: u64) -> Stamp
+pub fn stamp(number: u8) -> Stamp
     ensures { IsLawfulStamp result }
 {
     Stamp {
         epoch: 1,
-        number,
+        number: u64::from(number),
         proxy: 5,
         seq: 1,
     }
 }
 
-pub fn value(alloc: Global, byte: u8) -> Result<Value, AllocError> {
-    let mut bytes = Vec::new(alloc);
-    bytes.push(byte)?;
-    Ok(Value::from_vec(bytes))
+/// The call's own ticket.
+pub fn ticket(epoch: u32, number: u64) -> Stamp
+    ensures { IsLawfulStamp result }
+{
+    Stamp {
+        epoch,
+        number,
+        proxy: 3,
+        seq: 7,
+    }
 }
 
-/// The view of an epoch in which `member` reads from and writes to centres 0, 1 and 2.
-pub fn view_of(alloc: Global, epoch: u32, member: u8) -> Result<View, AllocError> {
+pub fn value(alloc: Global, byte: u8) -> Result<Value, AllocError>
+    ensures { IfOk result (λ value. length value ≡ 1) }
+{
+    Ok(Value::from_vec(Vec::from_slice(alloc, &[byte])?))
+}
+
+/// The policy under which `member` reads from and writes to centres 0, 1 and 2.
+pub fn policy_of(alloc: Global, member: u8) -> Result<Policy, AllocError> {
     let all = DcSet::from_bits(0b111);
     let mut members = Listed::new(alloc);
     members.push(Quorum {
@@ -54,203 +80,56 @@ pub fn view_of(alloc: Global, epoch: u32, member: u8) -> Result<View, AllocError
         read: all,
         write: all,
     })?;
+    Ok(Policy::Strong {
+        f: 1,
+        replicas: all,
+        members,
+    })
+}
+
+pub fn view_of(alloc: Global, epoch: u32, member: u8) -> Result<View, AllocError> {
     Ok(View {
         key: KEY,
         epoch,
-        policy: Policy::Strong {
-            f: 1,
-            replicas: all,
-            members,
+        policy: policy_of(alloc, member)?,
+    })
+}
+
+/// The answer of a replica; a Yes in place of a Here.
+pub fn answer(alloc: Global, heard: Heard) -> Result<Message, AllocError>
+    ensures { IfOk result IsLawful }
+{
+    Ok(match heard {
+        Heard::Have(replica, version, mark) => Message::Have {
+            tag: tag(1),
+            replica: centre(replica),
+            version: stamp(version),
+            mark: stamp(mark),
+            value: value(alloc, version)?,
+        },
+        Heard::Yes(phase, replica) => Message::Yes {
+            tag: tag(phase),
+            replica: centre(replica),
+        },
+        Heard::Held(phase, replica, number) => Message::Held {
+            tag: tag(phase),
+            replica: centre(replica),
+            stamp: stamp(number),
+        },
+        Heard::Gone(phase, replica, epoch) => Message::Gone {
+            tag: tag(phase),
+            replica: centre(replica),
+            epoch: u32::from(epoch),
+        },
+        Heard::Here(phase, _, _) => Message::Yes {
+            tag: tag(phase),
+            replica: centre(0),
         },
     })
 }
 
-/// A read that has begun in epoch 1.
-pub fn begin_read(rt: &impl Abort, alloc: Global) -> Result<StrongCall, AllocError> {
-    let view = view_of(alloc, 1, 0)?;
-    assert!(rt; is_sound(&view.policy) && view.epoch > 0 && view.key.0 < 1000);
-    assert!(rt; member_of(&view.policy, DcId(0)).is_some());
-    let mut out = Outputs::make(alloc);
-    let call = StrongCall::read(alloc, tag(1), DcId(0), &view, &mut out)?;
-    let asked = Message::Read {
-        tag: tag(1),
-        key: KEY,
-        epoch: 1,
-    };
-    expect_sent(rt, &out, &asked);
-    Ok(call)
-}
-
-/// A write of `byte` that has begun in epoch 1 under the ticket of number 4.
-pub fn begin_write(rt: &impl Abort, alloc: Global, byte: u8) -> Result<StrongCall, AllocError> {
-    let view = view_of(alloc, 1, 0)?;
-    assert!(rt; is_sound(&view.policy) && view.epoch > 0 && view.key.0 < 1000);
-    assert!(rt; member_of(&view.policy, DcId(0)).is_some());
-    let mut out = Outputs::make(alloc);
-    let written = value(alloc, byte)?;
-    let call = StrongCall::write(alloc, tag(1), DcId(0), &view, ticket(), &written, &mut out)?;
-    let asked = Message::Ask {
-        tag: tag(1),
-        key: KEY,
-        stamp: ticket(),
-    };
-    expect_sent(rt, &out, &asked);
-    Ok(call)
-}
-
-/// The ticket of a write in epoch 1.
-pub fn ticket() -> Stamp
-    ensures { IsLawfulStamp result }
+fn centre(number: u8) -> DcId
+    ensures { result.0 < 16 }
 {
-    Stamp {
-        epoch: 1,
-        number: 4,
-        proxy: 3,
-        seq: 7,
-    }
-}
-
-/// What the call puts out as it takes the message, under the view and with 10 as the greatest
-/// number that the proxy saw. It is as much as was foretold.
-pub fn told(
-    rt: &impl Abort,
-    alloc: Global,
-    call: &mut StrongCall,
-    message: &Message,
-    view: &View,
-) -> Result<Outputs, AllocError>
-    requires { IsLawful message.now }
-{
-    assert!(rt; is_sound(&view.policy) && view.epoch > 0 && view.key.0 < 1000);
-    assert!(rt; view.key.0 == call.key().0);
-    let mut out = Outputs::make(alloc);
-    let bulk = call.bulk(message, view, 10);
-    call.take(alloc, message, view, 10, &mut out)?;
-    assert!(rt; bulk.posts as usize == out.posts.len());
-    Ok(out)
-}
-
-/// A Have of a replica in epoch 1.
-pub fn told_have(
-    rt: &impl Abort,
-    alloc: Global,
-    call: &mut StrongCall,
-    replica: u8,
-    version: u8,
-    mark: u8,
-) -> Result<Outputs, AllocError>
-    requires { replica < 16 }
-{
-    let message = Message::Have {
-        tag: tag(1),
-        replica: DcId(replica),
-        version: stamp(u64::from(version)),
-        mark: stamp(u64::from(mark)),
-        value: value(alloc, version)?,
-    };
-    told(rt, alloc, call, &message, &view_of(alloc, 1, 0)?)
-}
-
-/// A Yes of a replica in epoch 1.
-pub fn told_yes(
-    rt: &impl Abort,
-    alloc: Global,
-    call: &mut StrongCall,
-    replica: u8,
-    phase: u8,
-) -> Result<Outputs, AllocError>
-    requires replica { replica < 16 }
-    requires phase { 1 ≤ phase }
-{
-    let message = Message::Yes {
-        tag: tag(phase),
-        replica: DcId(replica),
-    };
-    told(rt, alloc, call, &message, &view_of(alloc, 1, 0)?)
-}
-
-/// A Held of a replica in epoch 1.
-pub fn told_held(
-    rt: &impl Abort,
-    alloc: Global,
-    call: &mut StrongCall,
-    replica: u8,
-    phase: u8,
-    number: u64,
-) -> Result<Outputs, AllocError>
-    requires replica { replica < 16 }
-    requires phase { 1 ≤ phase }
-{
-    let message = Message::Held {
-        tag: tag(phase),
-        replica: DcId(replica),
-        stamp: stamp(number),
-    };
-    told(rt, alloc, call, &message, &view_of(alloc, 1, 0)?)
-}
-
-/// A Gone of a replica that is frozen up to this epoch.
-pub fn told_gone(
-    rt: &impl Abort,
-    alloc: Global,
-    call: &mut StrongCall,
-    replica: u8,
-    phase: u8,
-    epoch: u32,
-) -> Result<Outputs, AllocError>
-    requires replica { replica < 16 }
-    requires phase { 1 ≤ phase }
-{
-    let message = Message::Gone {
-        tag: tag(phase),
-        replica: DcId(replica),
-        epoch,
-    };
-    told(rt, alloc, call, &message, &view_of(alloc, 1, 0)?)
-}
-
-/// A Here that leaves the proxy with this view.
-pub fn told_here(
-    rt: &impl Abort,
-    alloc: Global,
-    call: &mut StrongCall,
-    phase: u8,
-    view: &View,
-) -> Result<Outputs, AllocError>
-    requires { 1 ≤ phase }
-{
-    assert!(rt; is_sound(&view.policy) && view.epoch > 0);
-    let message = Message::Here {
-        tag: tag(phase),
-        key: KEY,
-        epoch: view.epoch,
-        policy: view.policy.clone()?,
-        latest_epoch: view.epoch,
-        latest_policy: view.policy.clone()?,
-    };
-    told(rt, alloc, call, &message, view)
-}
-
-/// The message is put out to each of the replicas 0, 1 and 2, in this order.
-pub fn expect_sent(rt: &impl Abort, out: &Outputs, message: &Message) {
-    let posts = out.posts.as_slice();
-    assert_eq!(rt; posts.len(), 3);
-    for (number, post) in posts.iter().enumerate() {
-        assert!(rt; post.to == Actor::Replica(number as u8));
-        assert!(rt; post.message == *message);
-    }
-}
-
-/// A question to the directory is put out, with this phase's number, and nothing else.
-pub fn expect_lookup(rt: &impl Abort, out: &Outputs, phase: u8)
-    requires { 1 ≤ phase }
-{
-    let posts = out.posts.as_slice();
-    assert_eq!(rt; posts.len(), 1);
-    assert!(rt; posts[0].to == Actor::Directory);
-    let asked = Message::Lookup {
-        tag: tag(phase),
-        key: KEY,
-    };
-    assert!(rt; posts[0].message == asked);
+    DcId(number.min(15))
 }

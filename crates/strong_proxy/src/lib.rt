@@ -2,22 +2,22 @@
 //! the call is tried.
 #![tactic(auto)]
 
-mod answers;
+mod best;
+mod bulk;
 mod call;
-mod effects;
-mod lent;
-mod measure;
-mod member;
+mod counting;
+mod laws;
 mod next;
 mod opening;
+mod phases;
 mod progress;
-mod sending;
+mod requests;
 mod state;
-mod taking;
+mod step;
 mod verdict;
 
 pub use call::StrongCall;
-pub use member::member_of;
+pub use laws::stored_writes_have_their_quorum;
 pub use next::Next;
 pub use progress::{Leg, Progress, Stage};
 pub use state::{CallState, Work};

@@ -1,13 +1,12 @@
 ghost use Rattle.std.specs.Prelude.{◌≡◌, IfOk, OnErr, Some, IsSome};
 ghost use Rattle.wire_msg.specs.Outputs.{nothing_out};
 ghost use Rattle.std.specs.Option.{option_map};
-ghost use Rattle.strong_proxy.specs.Member.{member_of, leg_under};
-ghost use Rattle.strong_proxy.specs.Steps.{begun, opened_as};
+ghost use Rattle.span_base.specs.PolicyParts.{member_of};
+ghost use Rattle.strong_proxy.specs.Rule.{leg_under, begun, opened_as};
 
-use crate::effects::first_set;
-use crate::member::{leg_under, member_of};
+use crate::phases::first_set;
 use crate::progress::{Leg, Progress, Stage};
-use crate::sending::first_posts;
+use crate::requests::first_posts;
 use crate::state::{CallState, Work};
 use call_phase::Phase;
 use span_base::{DcId, KeyId, Listed};
@@ -17,7 +16,7 @@ use wire_msg::{Outputs, Tag, View};
 
 impl CallState {
     /// A call that begins, under the view of its key.
-    #[tactic(auto, unfolding(crate::specs::Steps::opened_as))]
+    #[tactic(auto, unfolding(crate::specs::Rule::opened_as))]
     pub(crate) fn open(
         alloc: Global,
         work: Work,
@@ -29,7 +28,7 @@ impl CallState {
     ) -> Result<CallState, AllocError>
         requires member { IsSome (member_of view.now.policy at.0) }
         requires empty { out.old ≡ nothing_out }
-        ensures ok { IfOk result (λ call. opened_as work ticket tag at view.now ≡ Some (record { call = call; out = out.new })) }
+        ensures ok { IfOk result (λ call. opened_as work ticket tag at view.now ≡ Some (record { state = call; out = out.new })) }
         ensures err { OnErr result (out.new ≡ out.old) }
     {
         let leg = first_leg(view, at, ticket);
@@ -48,8 +47,8 @@ fn first_leg(view: &View, at: DcId, ticket: Stamp) -> Leg
     requires { IsSome (member_of view.now.policy at.0) }
     ensures { option_map (λ member. leg_under view.now member ticket) (member_of view.now.policy at.0) ≡ Some result }
 {
-    match member_of(&view.policy, at) {
-        Some(member) => leg_under(view, member, ticket),
+    match view.policy.member(at) {
+        Some(member) => Leg::under(view, member, ticket),
         None => unreachable!(),
     }
 }

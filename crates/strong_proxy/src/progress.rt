@@ -1,6 +1,10 @@
+ghost use Rattle.std.specs.Prelude.{◌≡◌};
+ghost use Rattle.strong_proxy.specs.Rule.{leg_under};
+
 use call_phase::Phase;
-use span_base::{DcId, DcSet, KeyId};
+use span_base::{DcId, DcSet, KeyId, Quorum};
 use ticket_rules::Stamp;
+use wire_msg::View;
 
 /// A try of a call in one epoch, by what the proxy's view told when it began.
 #[derive(Clone, Copy, Debug, PartialEq, Eq)]
@@ -9,10 +13,27 @@ pub struct Leg {
     pub epoch: u32,
     /// How many replicas may stop.
     pub f: u8,
+    /// Whom a read asks: all but `f` of them answer for the whole set.
     pub reads: DcSet,
+    /// Where a write asks for its ticket and stores, and a read repairs: at all but `f` of them.
     pub writes: DcSet,
     /// A write's ticket, drawn for this leg; stamp zero in a read.
     pub ticket: Stamp,
+}
+
+impl Leg {
+    /// The leg that the member begins under the view.
+    pub(crate) fn under(view: &View, member: Quorum, ticket: Stamp) -> Leg
+        ensures { result ≡ leg_under view.now member ticket }
+    {
+        Leg {
+            epoch: view.epoch,
+            f: view.policy.faults(),
+            reads: member.read,
+            writes: member.write,
+            ticket,
+        }
+    }
 }
 
 /// Which answers a call waits for.
@@ -31,12 +52,13 @@ pub enum Stage {
 /// How far a call is: all that it keeps but values.
 #[derive(Clone, Copy, Debug, PartialEq, Eq)]
 pub struct Progress {
+    /// The key that the call reads or writes.
     pub key: KeyId,
     /// The centre in which the proxy stands.
     pub at: DcId,
     pub leg: Leg,
     pub stage: Stage,
-    /// The present phase.
+    /// The present phase: its number is that of the call's last requests.
     pub phase: Phase,
     /// How often the call looked its key up to go over to a later epoch: at most 4 times.
     pub lookups: u8,

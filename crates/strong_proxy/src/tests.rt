@@ -1,197 +1,377 @@
+//! How calls go, by hand: what a call puts out for the last of its answers. Its replicas are 0, 1
+//! and 2, of which one may stop; its write stores 65 under the ticket of number 4.
+
+ghost use Rattle.std.specs.Prelude.{IfOk};
+ghost use Rattle.wire_msg.specs.Lawful.{IsLawful};
+
 use super::fixtures::*;
 use super::*;
-use span_base::DcId;
-use std::alloc::Global;
+use span_base::{DcId, Listed, is_sound};
+use std::alloc::{AllocError, Global};
 use std::process::Abort;
 use std::test::Fail;
-use ticket_rules::Stamp;
-use wire_msg::{Message, Outputs, Reply, Tag};
+use wire_msg::{Actor, Message, Outputs, Post, Reply, View};
 
-#[test]
-fn a_read_needs_no_repair_where_a_mark_is_at_its_version(rt: HostRuntime) -> Result<(), Fail> {
-    let alloc = rt.alloc();
-    let mut call = begin_read(&rt, alloc)?;
-    assert!(rt; told_have(&rt, alloc, &mut call, 0, 6, 0)? == Outputs::make(alloc));
-    let out = told_have(&rt, alloc, &mut call, 2, 8, 8)?;
-    let end = Reply::Value {
-        stamp: stamp(8),
-        value: value(alloc, 8)?,
-    };
-    assert!(rt; out.end == Some(end) && out.posts.is_empty());
-    Ok(())
+/// What is put out: to each replica, or to the directory.
+#[derive(Clone, Copy)]
+enum Sent {
+    Nothing,
+    /// The phase and the epoch.
+    Read(u8, u32),
+    /// The phase, and the epoch and number of the ticket.
+    Ask(u8, u32, u64),
+    Repair(u8),
+    Store,
+    Confirm,
+    /// The phase.
+    Lookup(u8),
 }
 
-#[test]
-fn a_read_repairs_a_version_above_each_mark(rt: HostRuntime) -> Result<(), Fail> {
-    let alloc = rt.alloc();
-    let mut call = begin_read(&rt, alloc)?;
-    let _waits = told_have(&rt, alloc, &mut call, 0, 8, 0)?;
-    let out = told_have(&rt, alloc, &mut call, 1, 6, 6)?;
-    let repair = Message::Repair {
-        tag: tag(2),
-        key: KEY,
-        epoch: 1,
-        stamp: stamp(8),
-        value: value(alloc, 8)?,
-    };
-    expect_sent(&rt, &out, &repair);
-    assert!(rt; out.end.is_none());
-    ends_with_eight(&rt, alloc, call)
+/// How the call ends.
+#[derive(Clone, Copy)]
+enum End {
+    Not,
+    Value(u8),
+    Stored,
+    Fenced(u8),
+    Unsure,
+    Moved(u32),
+    Outside,
 }
 
-fn ends_with_eight(rt: &impl Abort, alloc: Global, mut call: StrongCall) -> Result<(), Fail> {
-    assert!(rt; told_yes(rt, alloc, &mut call, 2, 2)? == Outputs::make(alloc));
-    let out = told_yes(rt, alloc, &mut call, 0, 2)?;
-    let end = Reply::Value {
-        stamp: stamp(8),
-        value: value(alloc, 8)?,
-    };
-    assert!(rt; out.end == Some(end) && out.posts.is_empty());
-    Ok(())
-}
-
-#[test]
-fn a_write_is_stored_and_confirmed(rt: HostRuntime) -> Result<(), Fail> {
-    let alloc = rt.alloc();
-    let mut call = begin_write(&rt, alloc, 65)?;
-    let _waits = told_yes(&rt, alloc, &mut call, 0, 1)?;
-    let out = told_yes(&rt, alloc, &mut call, 1, 1)?;
-    let store = Message::Store {
-        tag: tag(2),
-        key: KEY,
-        stamp: ticket(),
-        value: value(alloc, 65)?,
-    };
-    expect_sent(&rt, &out, &store);
-    stored(&rt, alloc, call)
-}
-
-fn stored(rt: &impl Abort, alloc: Global, mut call: StrongCall) -> Result<(), Fail> {
-    assert!(rt; told_yes(rt, alloc, &mut call, 1, 2)? == Outputs::make(alloc));
-    let out = told_yes(rt, alloc, &mut call, 2, 2)?;
-    let confirm = Message::Confirm {
-        tag: tag(3),
-        key: KEY,
-        stamp: ticket(),
-    };
-    expect_sent(rt, &out, &confirm);
-    assert!(rt; out.end == Some(Reply::Stored { stamp: ticket() }));
-    assert!(rt; told_yes(rt, alloc, &mut call, 0, 2)? == Outputs::make(alloc));
-    Ok(())
-}
-
-#[test]
-fn a_write_is_fenced_by_greater_stamps(rt: HostRuntime) -> Result<(), Fail> {
-    let alloc = rt.alloc();
-    let mut call = begin_write(&rt, alloc, 65)?;
-    let _waits = told_held(&rt, alloc, &mut call, 2, 1, 9)?;
-    let out = told_held(&rt, alloc, &mut call, 0, 1, 5)?;
-    assert!(rt; out.end == Some(Reply::Fenced { held: stamp(9) }) && out.posts.is_empty());
-    Ok(())
-}
-
-#[test]
-fn a_write_that_may_be_stored_is_unsure(rt: HostRuntime) -> Result<(), Fail> {
-    let alloc = rt.alloc();
-    let mut call = begin_write(&rt, alloc, 65)?;
-    let _waits = told_yes(&rt, alloc, &mut call, 0, 1)?;
-    let _stores = told_yes(&rt, alloc, &mut call, 1, 1)?;
-    let _holds = told_held(&rt, alloc, &mut call, 0, 2, 9)?;
-    let out = told_gone(&rt, alloc, &mut call, 1, 2, 1)?;
-    assert!(rt; out.end == Some(Reply::Unsure) && out.posts.is_empty());
-    Ok(())
-}
-
-#[test]
-fn a_write_goes_over_with_a_new_ticket(rt: HostRuntime) -> Result<(), Fail> {
-    let alloc = rt.alloc();
-    let mut call = begin_write(&rt, alloc, 65)?;
-    let _waits = told_held(&rt, alloc, &mut call, 0, 1, 9)?;
-    let out = told_gone(&rt, alloc, &mut call, 1, 1, 1)?;
-    expect_lookup(&rt, &out, 2);
-    let again = told_here(&rt, alloc, &mut call, 2, &view_of(alloc, 1, 0)?)?;
-    expect_lookup(&rt, &again, 3);
-    begins_anew(&rt, alloc, call)
-}
-
-fn begins_anew(rt: &impl Abort, alloc: Global, mut call: StrongCall) -> Result<(), Fail> {
-    let out = told_here(rt, alloc, &mut call, 3, &view_of(alloc, 2, 0)?)?;
-    let drawn = Stamp {
-        epoch: 2,
-        number: 11,
-        proxy: 3,
-        seq: 7,
-    };
-    assert!(rt; out.ticket == Some(drawn) && out.end.is_none());
-    let ask = Message::Ask {
-        tag: tag(4),
-        key: KEY,
-        stamp: drawn,
-    };
-    expect_sent(rt, &out, &ask);
-    Ok(())
-}
-
-#[test]
-fn a_read_looks_up_four_times_at_most(rt: HostRuntime) -> Result<(), Fail> {
-    let alloc = rt.alloc();
-    let mut call = begin_read(&rt, alloc)?;
-    let _waits = told_gone(&rt, alloc, &mut call, 1, 1, 5)?;
-    let out = told_gone(&rt, alloc, &mut call, 0, 1, 3)?;
-    expect_lookup(&rt, &out, 2);
-    for phase in 2..5 {
-        let again = told_here(&rt, alloc, &mut call, phase, &view_of(alloc, 1, 0)?)?;
-        expect_lookup(&rt, &again, phase + 1);
-        assert!(rt; again.end.is_none());
-    }
-    moves(&rt, alloc, call)
-}
-
-fn moves(rt: &impl Abort, alloc: Global, mut call: StrongCall) -> Result<(), Fail> {
-    let out = told_here(rt, alloc, &mut call, 5, &view_of(alloc, 1, 0)?)?;
-    expect_lookup(rt, &out, 6);
-    assert!(rt; out.end == Some(Reply::Moved { epoch: 5 }));
-    Ok(())
-}
-
-#[test]
-fn a_call_ends_outside_where_its_centre_is_no_member(rt: HostRuntime) -> Result<(), Fail> {
-    let alloc = rt.alloc();
-    let mut call = begin_read(&rt, alloc)?;
-    let _waits = told_gone(&rt, alloc, &mut call, 1, 1, 1)?;
-    let _looks = told_gone(&rt, alloc, &mut call, 0, 1, 1)?;
-    let out = told_here(&rt, alloc, &mut call, 2, &view_of(alloc, 2, 1)?)?;
-    assert!(rt; out.end == Some(Reply::Outside) && out.posts.is_empty());
-    Ok(())
-}
-
-#[test]
-fn what_does_not_count_changes_nothing(rt: HostRuntime) -> Result<(), Fail> {
-    let alloc = rt.alloc();
-    let mut call = begin_read(&rt, alloc)?;
-    assert!(rt; told_have(&rt, alloc, &mut call, 0, 6, 6)? == Outputs::make(alloc));
-    // A second answer, a replica that was not asked, another kind, a later phase.
-    assert!(rt; told_have(&rt, alloc, &mut call, 0, 6, 6)? == Outputs::make(alloc));
-    assert!(rt; told_have(&rt, alloc, &mut call, 3, 6, 6)? == Outputs::make(alloc));
-    assert!(rt; told_yes(&rt, alloc, &mut call, 1, 1)? == Outputs::make(alloc));
-    others(&rt, alloc, call)
-}
-
-fn others(rt: &impl Abort, alloc: Global, mut call: StrongCall) -> Result<(), Fail> {
-    assert!(rt; told_gone(rt, alloc, &mut call, 1, 2, 1)? == Outputs::make(alloc));
-    assert!(rt;
-        told_here(rt, alloc, &mut call, 1, &view_of(alloc, 2, 0)?)? == Outputs::make(alloc)
-    );
-    let stale = Message::Gone {
-        tag: Tag {
-            generation: 3,
-            ..tag(1)
+fn message_of(alloc: Global, sent: Sent) -> Result<Option<Message>, AllocError> {
+    Ok(Some(match sent {
+        Sent::Nothing => return Ok(None),
+        Sent::Read(phase, epoch) => Message::Read {
+            tag: tag(phase),
+            key: KEY,
+            epoch,
         },
-        replica: DcId(1),
-        epoch: 1,
-    };
-    assert!(rt;
-        told(rt, alloc, &mut call, &stale, &view_of(alloc, 1, 0)?)? == Outputs::make(alloc)
-    );
+        Sent::Ask(phase, epoch, number) => Message::Ask {
+            tag: tag(phase),
+            key: KEY,
+            stamp: ticket(epoch, number),
+        },
+        Sent::Repair(number) => Message::Repair {
+            tag: tag(2),
+            key: KEY,
+            epoch: 1,
+            stamp: stamp(number),
+            value: value(alloc, number)?,
+        },
+        Sent::Store => Message::Store {
+            tag: tag(2),
+            key: KEY,
+            stamp: ticket(1, 4),
+            value: value(alloc, 65)?,
+        },
+        Sent::Confirm => Message::Confirm {
+            tag: tag(3),
+            key: KEY,
+            stamp: ticket(1, 4),
+        },
+        Sent::Lookup(phase) => Message::Lookup {
+            tag: tag(phase),
+            key: KEY,
+        },
+    }))
+}
+
+fn reply_of(alloc: Global, end: End) -> Result<Option<Reply>, AllocError> {
+    Ok(Some(match end {
+        End::Not => return Ok(None),
+        End::Value(number) => Reply::Value {
+            stamp: stamp(number),
+            value: value(alloc, number)?,
+        },
+        End::Stored => Reply::Stored {
+            stamp: ticket(1, 4),
+        },
+        End::Fenced(number) => Reply::Fenced {
+            held: stamp(number),
+        },
+        End::Unsure => Reply::Unsure,
+        End::Moved(epoch) => Reply::Moved { epoch },
+        End::Outside => Reply::Outside,
+    }))
+}
+
+/// Whether the message, where there is one, goes to the directory or to each of the replicas, in
+/// this order, and nothing else is put out.
+fn are(posts: &Listed<Post>, sent: &Option<Message>) -> bool {
+    match sent {
+        Some(message) => match posts.as_slice() {
+            [post] => post.to == Actor::Directory && post.message == *message,
+            [first, second, third] => {
+                first.to == Actor::Replica(0)
+                    && second.to == Actor::Replica(1)
+                    && third.to == Actor::Replica(2)
+                    && first.message == *message
+                    && second.message == *message
+                    && third.message == *message
+            }
+            _ => false,
+        },
+        None => posts.is_empty(),
+    }
+}
+
+fn begin(
+    rt: &impl Abort,
+    alloc: Global,
+    is_read: bool,
+    out: &mut Outputs,
+) -> Result<StrongCall, AllocError> {
+    let view = view_of(alloc, 1, 0)?;
+    assert!(rt; is_sound(&view.policy) && view.epoch > 0 && view.key.0 < 1000);
+    assert!(rt; view.policy.member(DcId(0)).is_some());
+    *out = Outputs::make(alloc);
+    if is_read {
+        StrongCall::read(alloc, tag(1), DcId(0), &view, out)
+    } else {
+        let written = value(alloc, 65)?;
+        StrongCall::write(alloc, tag(1), DcId(0), &view, ticket(1, 4), &written, out)
+    }
+}
+
+/// What the call puts out for a message, where 10 is the greatest number that the proxy saw.
+fn take(
+    rt: &impl Abort,
+    alloc: Global,
+    call: &mut StrongCall,
+    message: &Message,
+    view: &View,
+) -> Result<Outputs, AllocError>
+    requires { IsLawful message.now }
+{
+    assert!(rt; is_sound(&view.policy) && view.epoch > 0 && view.key.0 < 1000);
+    assert!(rt; view.key.0 == call.key().0);
+    let bulk = call.bulk(message, view, 10);
+    let mut out = Outputs::make(alloc);
+    call.take(alloc, message, view, 10, &mut out)?;
+    assert!(rt; bulk.posts as usize == out.posts.len());
+    Ok(out)
+}
+
+/// What the directory tells where an epoch with this one member is the latest and current.
+fn here(
+    rt: &impl Abort,
+    alloc: Global,
+    phase: u8,
+    epoch: u32,
+    member: u8,
+) -> Result<Message, AllocError>
+    ensures { IfOk result IsLawful }
+{
+    let policy = policy_of(alloc, member)?;
+    let latest_policy = policy_of(alloc, member)?;
+    assert!(rt; is_sound(&policy));
+    assert!(rt; is_sound(&latest_policy));
+    assert!(rt; epoch > 0);
+    Ok(Message::Here {
+        tag: tag(phase),
+        key: KEY,
+        epoch,
+        policy,
+        latest_epoch: epoch,
+        latest_policy,
+    })
+}
+
+fn tell(
+    rt: &impl Abort,
+    alloc: Global,
+    call: &mut StrongCall,
+    heard: Heard,
+) -> Result<Outputs, AllocError> {
+    match heard {
+        Heard::Here(phase, epoch, member) => take(
+            rt,
+            alloc,
+            call,
+            &here(rt, alloc, phase, epoch, member)?,
+            &view_of(alloc, epoch, member)?,
+        ),
+        _ => take(
+            rt,
+            alloc,
+            call,
+            &answer(alloc, heard)?,
+            &view_of(alloc, 1, 0)?,
+        ),
+    }
+}
+
+/// Whether the last of the answers makes the call put out this, and end so.
+fn goes(
+    rt: &impl Abort,
+    alloc: Global,
+    is_read: bool,
+    answers: [Heard; 6],
+    sent: Sent,
+    end: End,
+) -> Result<bool, AllocError> {
+    let mut out = Outputs::make(alloc);
+    let mut call = begin(rt, alloc, is_read, &mut out)?;
+    for heard in answers {
+        out = tell(rt, alloc, &mut call, heard)?;
+    }
+    Ok(are(&out.posts, &message_of(alloc, sent)?) && out.end == reply_of(alloc, end)?)
+}
+
+#[test]
+fn reads_go_so(rt: HostRuntime) -> Result<(), Fail> {
+    use Heard::*;
+    let rows = [
+        // A mark at the greatest version spares the repair.
+        (
+            [STRAY, STRAY, STRAY, STRAY, Have(0, 6, 0), Have(2, 8, 8)],
+            Sent::Nothing,
+            End::Value(8),
+        ),
+        (
+            [STRAY, STRAY, STRAY, STRAY, Have(0, 8, 0), Have(1, 6, 6)],
+            Sent::Repair(8),
+            End::Not,
+        ),
+        (
+            [
+                STRAY,
+                STRAY,
+                Have(0, 8, 0),
+                Have(1, 6, 6),
+                Yes(2, 2),
+                Yes(2, 0),
+            ],
+            Sent::Nothing,
+            End::Value(8),
+        ),
+        // A second answer, a replica that was not asked, another kind, a later phase.
+        (
+            [
+                STRAY,
+                Have(0, 6, 6),
+                Have(0, 6, 6),
+                Have(3, 6, 6),
+                Yes(1, 1),
+                Gone(2, 1, 1),
+            ],
+            Sent::Nothing,
+            End::Not,
+        ),
+        (
+            [
+                STRAY,
+                STRAY,
+                STRAY,
+                Gone(1, 1, 1),
+                Gone(1, 0, 1),
+                Here(2, 2, 0),
+            ],
+            Sent::Read(3, 2),
+            End::Not,
+        ),
+        (
+            [
+                STRAY,
+                STRAY,
+                STRAY,
+                Gone(1, 1, 1),
+                Gone(1, 0, 1),
+                Here(2, 2, 1),
+            ],
+            Sent::Nothing,
+            End::Outside,
+        ),
+        (
+            [
+                Gone(1, 1, 5),
+                Gone(1, 0, 3),
+                Here(2, 1, 0),
+                Here(3, 1, 0),
+                Here(4, 1, 0),
+                Here(5, 1, 0),
+            ],
+            Sent::Lookup(6),
+            End::Moved(5),
+        ),
+    ];
+    for (answers, sent, end) in rows {
+        assert!(rt; goes(&rt, rt.alloc(), true, answers, sent, end)?);
+    }
+    Ok(())
+}
+
+#[test]
+fn writes_go_so(rt: HostRuntime) -> Result<(), Fail> {
+    use Heard::*;
+    let rows = [
+        (
+            [STRAY, STRAY, STRAY, STRAY, Yes(1, 0), Yes(1, 1)],
+            Sent::Store,
+            End::Not,
+        ),
+        (
+            [STRAY, STRAY, Yes(1, 0), Yes(1, 1), Yes(2, 1), Yes(2, 2)],
+            Sent::Confirm,
+            End::Stored,
+        ),
+        // A call that has ended takes nothing.
+        (
+            [STRAY, Yes(1, 0), Yes(1, 1), Yes(2, 1), Yes(2, 2), Yes(2, 0)],
+            Sent::Nothing,
+            End::Not,
+        ),
+        (
+            [STRAY, STRAY, STRAY, STRAY, Held(1, 2, 9), Held(1, 0, 5)],
+            Sent::Nothing,
+            End::Fenced(9),
+        ),
+        (
+            [
+                STRAY,
+                STRAY,
+                Yes(1, 0),
+                Yes(1, 1),
+                Held(2, 0, 9),
+                Gone(2, 1, 1),
+            ],
+            Sent::Nothing,
+            End::Unsure,
+        ),
+        (
+            [STRAY, STRAY, STRAY, STRAY, Held(1, 0, 9), Gone(1, 1, 1)],
+            Sent::Lookup(2),
+            End::Not,
+        ),
+        // The epoch that the directory tells has to be a later one.
+        (
+            [
+                STRAY,
+                STRAY,
+                STRAY,
+                Held(1, 0, 9),
+                Gone(1, 1, 1),
+                Here(2, 1, 0),
+            ],
+            Sent::Lookup(3),
+            End::Not,
+        ),
+        (
+            [
+                STRAY,
+                STRAY,
+                Held(1, 0, 9),
+                Gone(1, 1, 1),
+                Here(2, 1, 0),
+                Here(3, 2, 0),
+            ],
+            Sent::Ask(4, 2, 11),
+            End::Not,
+        ),
+    ];
+    for (answers, sent, end) in rows {
+        assert!(rt; goes(&rt, rt.alloc(), false, answers, sent, end)?);
+    }
     Ok(())
 }

@@ -1,10 +1,9 @@
 ghost use Rattle.std.specs.Prelude.{◌≡◌};
-ghost use Rattle.strong_proxy.specs.Member.{member_of};
-ghost use Rattle.strong_proxy.specs.Verdict.{decided, go_over, answer_or_repair, first_verdict, second_verdict, enter_as, enter, verdict};
+ghost use Rattle.span_base.specs.PolicyParts.{member_of};
+ghost use Rattle.strong_proxy.specs.Rule.{decided, go_over, answer_or_repair, first_verdict, second_verdict, enter_as, enter, verdict};
 
-use crate::member::{leg_under, member_of};
 use crate::next::Next;
-use crate::progress::{Progress, Stage};
+use crate::progress::{Leg, Progress, Stage};
 use crate::state::Work;
 use span_base::Quorum;
 use ticket_rules::{Stamp, next_ticket};
@@ -42,7 +41,7 @@ impl Progress {
                 let lost = if self.had_gone {
                     self.go_over()
                 } else {
-                    Next::Fence
+                    Next::Fenced
                 };
                 self.decided(Next::Store, lost)
             }
@@ -53,8 +52,8 @@ impl Progress {
         ensures { result ≡ second_verdict work.now self.now }
     {
         match work {
-            Work::ToRead => self.decided(Next::Answer, self.go_over()),
-            Work::ToWrite(_) => self.decided(Next::Confirm, Next::Doubt),
+            Work::ToRead => self.decided(Next::Value, self.go_over()),
+            Work::ToWrite(_) => self.decided(Next::Stored, Next::Unsure),
         }
     }
 
@@ -78,7 +77,7 @@ impl Progress {
         if self.lookups < LOOKUPS {
             Next::Look
         } else {
-            Next::Move
+            Next::Moved
         }
     }
 
@@ -86,9 +85,9 @@ impl Progress {
     fn enter(&self, work: &Work, view: &View, seen: u64) -> Next
         ensures { result ≡ enter (member_of view.now.policy self.now.at.0) work.now self.now view.now seen }
     {
-        match member_of(&view.policy, self.at) {
+        match view.policy.member(self.at) {
             Some(member) => self.enter_as(work, member, view, seen),
-            None => Next::Leave,
+            None => Next::Outside,
         }
     }
 
@@ -97,10 +96,10 @@ impl Progress {
     {
         let call = self.phase.tag.call;
         match work {
-            Work::ToRead => Next::Enter(leg_under(view, member, Stamp::zero())),
+            Work::ToRead => Next::Enter(Leg::under(view, member, Stamp::zero())),
             Work::ToWrite(_) => match next_ticket(view.epoch, seen, call.proxy, call.seq) {
-                Ok(ticket) => Next::Enter(leg_under(view, member, ticket)),
-                Err(_) => Next::RunOut,
+                Ok(ticket) => Next::Enter(Leg::under(view, member, ticket)),
+                Err(_) => Next::NumbersOut,
             },
         }
     }
@@ -113,7 +112,7 @@ fn answer_or_repair(mark: &Stamp, best: Option<Stamp>) -> Next
     match best {
         Some(version) => {
             if *mark >= version {
-                Next::Answer
+                Next::Value
             } else {
                 Next::Repair
             }

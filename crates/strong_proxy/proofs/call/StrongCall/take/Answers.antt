@@ -14,6 +14,9 @@ invariant_of-self c = (after c).call
 pub returns-then-counts-clause-lawful : goal.returns-then-counts-clause-lawful
 returns-then-counts-clause-lawful c = (after c).lawful
 
+pub returns-then-counts-clause-posts : goal.returns-then-counts-clause-posts
+returns-then-counts-clause-posts c = rw (← c.self.view_is) (after c).sent
+
 pub returns-then-counts-clause-key : goal.returns-then-counts-clause-key
 returns-then-counts-clause-key c = rw (← c.self.view_is) (after c).key
 
