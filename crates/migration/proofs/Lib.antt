@@ -1,2 +1,5 @@
-pub mod Posts
+pub mod Growth
+pub mod Runs
+pub mod Switches
+pub mod Outs
 pub mod Steps

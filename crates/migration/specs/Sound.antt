@@ -1,14 +1,10 @@
--- What holds of every move.
-use Rattle.std.specs.Prelude.{◌≡◌, ℕ, ◌≤◌, true, length, Option, Some, None}
-use Rattle.span_base.specs.Policy.{IsQuorumPolicy}
-use Rattle.span_base.specs.declared.policy.Policy.{Policy}
-use Rattle.wire_msg.specs.declared.tag.Tag.{Tag}
-use Rattle.wire_msg.specs.declared.message.Message.{Message}
-use Rattle.wire_msg.specs.declared.message.Message.TheVariants.{Here}
-use Rattle.wire_msg.specs.declared.outputs.View.{View}
-use Rattle.wire_msg.specs.Lawful.{IsLawfulTag, IsLawfulKey, IsLawfulStamp, IsLawfulView}
+-- What holds of every move, and of what it puts out.
+use Rattle.std.specs.Prelude.{◌≡◌, ℕ, ◌≤◌, length, Option, Some, None, IfSome}
+use Rattle.span_base.specs.Policy.{IsSoundPolicy}
+use Rattle.wire_msg.specs.declared.outputs.Outputs.{Outputs}
+use Rattle.wire_msg.specs.Lawful.{AreLawful, IsLawfulTag, IsLawfulKey, IsLawfulStamp, IsLawfulView, IsLawfulReply}
+use Rattle.wire_msg.specs.Posts.{ArePostsOf}
 use Rattle.call_phase.specs.declared.best.Found.{Found}
-use Rattle.call_phase.specs.Counting.{counts_without_replica}
 use Rattle.migration.specs.declared.stage.Epoch.{Epoch}
 use Rattle.migration.specs.declared.stage.Stage.{Stage}
 use Rattle.migration.specs.declared.stage.Stage.TheVariants.{Looking, Freezing, Seeding, Switching, Ended}
@@ -30,7 +26,7 @@ IsLawfulFound None = Unit {0}
 -- an epoch that a key may be moved to
 pub record IsTarget (epoch : Epoch) : Type 0 where
   pub number : 1 ≤ epoch.number
-  pub policy : IsQuorumPolicy epoch.policy
+  pub policy : IsSoundPolicy epoch.policy
 
 -- what a stage keeps is in its ranges
 abbrev pub IsSoundStage : Stage → Type 0
@@ -47,17 +43,11 @@ pub record IsSoundMove (call : Moving) : Type 0 where
   pub phase : call.phase.tag.phase ≤ phase_of call.stage
   pub stage : IsSoundStage call.stage
 
--- where the move looks for its epochs and this tag is its phase's, the latest policy is a quorum policy
-abbrev pub FindsQuorums : Moving → Stage → Tag → Policy → Type 0
-FindsQuorums call Looking tag latest = counts_without_replica call.phase tag ≡ true → IsQuorumPolicy latest
-FindsQuorums call stage tag latest = Unit {0}
-
--- the latest policy of a Here that counts is a quorum policy
-abbrev pub HasQuorums : Moving → Message → Type 0
-HasQuorums call (Here tag key epoch policy latest_epoch latest_policy) = FindsQuorums call call.stage tag latest_policy
-HasQuorums call message = Unit {0}
-
--- a lawful view of a strong key
-pub record IsStrongView (view : View) : Type 0 where
-  pub lawful : IsLawfulView view
-  pub quorums : IsQuorumPolicy view.policy
+-- what a step puts out: lawful posts of the move's key, to the replicas that its phase asks and to
+-- the directory, no ticket, and a view and an end that are lawful
+pub record PutsOut (call : Moving) (out : Outputs) : Type 0 where
+  pub lawful : AreLawful out.posts
+  pub posts : ArePostsOf call.key call.phase.asked out.posts
+  pub ticket : out.ticket ≡ None
+  pub view : IfSome out.view IsLawfulView
+  pub end : IfSome out.end IsLawfulReply

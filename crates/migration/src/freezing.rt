@@ -1,45 +1,21 @@
-ghost use Rattle.std.specs.Prelude.{◌≡◌, ◌≤◌, ℕ, OnOk, OnErr, Some, length};
-ghost use Rattle.ticket_rules.specs.declared.stamp.Stamp.{Stamp};
-ghost use Rattle.wire_msg.specs.Lawful.{AreLawful, IsLawfulStamp};
-ghost use Rattle.wire_msg.specs.Outputs.{nothing_out};
+ghost use Rattle.std.specs.Prelude.{◌≡◌, ◌≤◌, OnOk, OnErr, length};
+ghost use Rattle.wire_msg.specs.Lawful.{IsLawfulStamp};
+ghost use Rattle.wire_msg.specs.Outputs.{nothing_out, IsMade};
 ghost use Rattle.wire_msg.specs.Sizes.{bulk_of};
-ghost use Rattle.call_phase.specs.declared.best.Found.{Found};
-ghost use Rattle.call_phase.specs.Best.{better};
-ghost use Rattle.migration.specs.Move.{IsMade, on_have};
+ghost use Rattle.migration.specs.Move.{on_have};
+ghost use Rattle.migration.specs.Sound.{PutsOut};
 
 use crate::move_call::MoveCall;
-use crate::parts::{first_write_set, is_frozen};
-use crate::sending::{ask_each, bulk_to_each, no_bulk};
+use crate::rule::MoveRule;
 use crate::stage::Stage;
-use call_phase::{Found, Phase, Request};
-use span_base::{DcId, VALUE_LIMIT, Value};
+use call_phase::{Phase, Request, greatest, send_to_each};
+use span_base::{DcId, Listed, VALUE_LIMIT, Value};
 use std::alloc::{AllocError, Global};
 use ticket_rules::Stamp;
 use wire_msg::sizes::SEED_BYTES;
 use wire_msg::{Bulk, Outputs, Tag};
 
-/// A version whose value is lent.
-#[derive(Clone, Copy)]
-pub(crate) struct Version<'a> {
-    pub(crate) stamp: Stamp,
-    pub(crate) value: &'a Value,
-}
-
-/// The greater of what was found so far and one more version; of equal stamps the first.
-fn greater<'a>(best: &'a Option<Found>, stamp: Stamp, value: &'a Value) -> Version<'a>
-    ensures { let found : Found = record { stamp = result.stamp; value = result.value.now } in
-        better best.now stamp value.now ≡ Some found }
-{
-    match best {
-        Some(found) if stamp <= found.stamp => Version {
-            stamp: found.stamp,
-            value: &found.value,
-        },
-        _ => Version { stamp, value },
-    }
-}
-
-impl MoveCall {
+impl<R: MoveRule> MoveCall<R> {
     /// Takes the version of a replica that is frozen now.
     pub(crate) fn take_have(
         &mut self,
@@ -53,10 +29,10 @@ impl MoveCall {
         requires stamp { IsLawfulStamp stamp.now }
         requires value { length value.now ≤ VALUE_LIMIT }
         requires empty { out.old ≡ nothing_out }
-        ensures ok { let step = on_have self.old self.old.stage tag.now replica stamp.now value.now in
+        ensures ok { let step = on_have R.rule self.old self.old.stage tag.now replica stamp.now value.now in
             OnOk result (IsMade step self.new out.new) }
         ensures err { OnErr result ((self.new ≡ self.old) × (out.new ≡ out.old)) }
-        ensures lawful { OnOk result (AreLawful out.new.posts) }
+        ensures out { OnOk result (PutsOut self.new out.new) }
     {
         let Stage::Freezing { old, new, best } = &self.stage else {
             return Ok(());
@@ -66,22 +42,22 @@ impl MoveCall {
         }
         let mut phase = self.phase;
         phase.take_good(replica);
-        if !is_frozen(&old.policy, phase.good) {
+        if !R::is_frozen(&old.policy, &phase) {
             self.stage.keep_better(stamp, value)?;
             self.phase = phase;
             return Ok(());
         }
-        let found = greater(best, *stamp, value);
+        let found = greatest(best, stamp, value);
         let seeded = found.stamp;
         let next = self.phase.next_tag();
-        let asked = first_write_set(&new.policy);
+        let asked = R::seed_set(&new.policy);
         let request = Request::Seed {
             key: self.key,
             epoch: new.number,
             stamp: seeded,
             value: found.value,
         };
-        out.posts = ask_each(alloc, asked, next, &request)?;
+        out.posts = Listed::from_vec(send_to_each(alloc, asked, next, &request)?);
         self.stage.begin_seeding(phase.good, seeded);
         self.phase = Phase::open(next, asked);
         Ok(())
@@ -95,23 +71,23 @@ impl MoveCall {
         stamp: &Stamp,
         value: &Value,
     ) -> Bulk
-        ensures { let step = on_have self.now self.now.stage tag.now replica stamp.now value.now in
+        ensures { let step = on_have R.rule self.now self.now.stage tag.now replica stamp.now value.now in
             result ≡ bulk_of step.out.posts }
     {
         let Stage::Freezing { old, new, best } = &self.stage else {
-            return no_bulk();
+            return Bulk::none();
         };
         if !self.phase.counts(tag, replica) {
-            return no_bulk();
+            return Bulk::none();
         }
         let mut phase = self.phase;
         phase.take_good(replica);
-        if is_frozen(&old.policy, phase.good) {
-            let found = greater(best, *stamp, value);
+        if R::is_frozen(&old.policy, &phase) {
+            let found = greatest(best, stamp, value);
             let bytes = SEED_BYTES + found.value.len() as u32;
-            bulk_to_each(first_write_set(&new.policy), bytes)
+            Bulk::to_each(R::seed_set(&new.policy), bytes)
         } else {
-            no_bulk()
+            Bulk::none()
         }
     }
 }

@@ -1,17 +1,16 @@
 ghost use Rattle.std.specs.Prelude.{◌≡◌, ◌≤◌, ℕ, OnOk, OnErr, IfOk};
 ghost use Rattle.span_base.specs.declared.policy.Policy.{Policy};
-ghost use Rattle.wire_msg.specs.Lawful.{AreLawful};
-ghost use Rattle.wire_msg.specs.Outputs.{nothing_out};
+ghost use Rattle.span_base.specs.Policy.{IsSoundPolicy};
+ghost use Rattle.wire_msg.specs.Outputs.{nothing_out, IsMade};
 ghost use Rattle.wire_msg.specs.Sizes.{bulk_of};
-ghost use Rattle.migration.specs.Move.{IsMade, epoch_at, on_here};
-ghost use Rattle.migration.specs.Sound.{FindsQuorums};
+ghost use Rattle.migration.specs.Move.{epoch_at, on_here};
+ghost use Rattle.migration.specs.Sound.{PutsOut};
 
 use crate::move_call::MoveCall;
-use crate::parts::replicas;
-use crate::sending::{ask_each, bulk_to_each, no_bulk};
+use crate::rule::MoveRule;
 use crate::stage::{Epoch, Stage};
-use call_phase::{Phase, Request};
-use span_base::Policy;
+use call_phase::{Phase, Request, send_to_each};
+use span_base::{Listed, Policy};
 use std::alloc::{AllocError, Global};
 use wire_msg::sizes::FREEZE_BYTES;
 use wire_msg::{Bulk, Outputs, Reply, Tag};
@@ -34,7 +33,7 @@ impl Told<'_> {
     }
 }
 
-impl MoveCall {
+impl<R: MoveRule> MoveCall<R> {
     /// Takes the key's current and latest epoch.
     pub(crate) fn take_here(
         &mut self,
@@ -46,13 +45,13 @@ impl MoveCall {
     ) -> Result<(), AllocError>
         requires current { 1 ≤ current.number }
         requires latest { 1 ≤ latest.number }
-        requires quorums { FindsQuorums self.old self.old.stage tag.now latest.policy.now }
+        requires sound { IsSoundPolicy latest.policy.now }
         requires empty { out.old ≡ nothing_out }
         ensures ok { let told = epoch_at current.entry.number current.entry.policy.now in
             let last = epoch_at latest.entry.number latest.entry.policy.now in
             OnOk result (IsMade (on_here self.old self.old.stage tag.now told last) self.new out.new) }
         ensures err { OnErr result ((self.new ≡ self.old) × (out.new ≡ out.old)) }
-        ensures lawful { OnOk result (AreLawful out.new.posts) }
+        ensures out { OnOk result (PutsOut self.new out.new) }
     {
         let Stage::Looking = &self.stage else {
             return Ok(());
@@ -68,12 +67,12 @@ impl MoveCall {
             return Ok(());
         }
         let next = self.phase.next_tag();
-        let asked = replicas(current.policy);
+        let asked = current.policy.replicas();
         let request = Request::Freeze {
             key: self.key,
             epoch: current.number,
         };
-        let posts = ask_each(alloc, asked, next, &request)?;
+        let posts = send_to_each(alloc, asked, next, &request)?;
         let old = current.keep()?;
         let new = latest.keep()?;
         self.phase = Phase::open(next, asked);
@@ -82,7 +81,7 @@ impl MoveCall {
             new,
             best: None,
         };
-        out.posts = posts;
+        out.posts = Listed::from_vec(posts);
         Ok(())
     }
 
@@ -100,11 +99,11 @@ impl MoveCall {
             result ≡ bulk_of (on_here self.now self.now.stage tag.now told last).out.posts }
     {
         let Stage::Looking = &self.stage else {
-            return no_bulk();
+            return Bulk::none();
         };
         if !self.phase.has_tag(tag) || epoch == latest_epoch {
-            return no_bulk();
+            return Bulk::none();
         }
-        bulk_to_each(replicas(policy), FREEZE_BYTES)
+        Bulk::to_each(policy.replicas(), FREEZE_BYTES)
     }
 }

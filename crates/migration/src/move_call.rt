@@ -1,29 +1,31 @@
-ghost use Rattle.std.specs.Prelude.{◌≡◌, OnOk, OnErr, IfOk, IfSome};
-ghost use Rattle.wire_msg.specs.Lawful.{IsLawful, AreLawful, IsLawfulTag, IsLawfulKey};
-ghost use Rattle.wire_msg.specs.Outputs.{nothing_out};
+ghost use Rattle.std.specs.Prelude.{◌≡◌, OnOk, OnErr, IfOk, IfSome, None};
+ghost use Rattle.wire_msg.specs.Lawful.{IsLawful, AreLawful, IsLawfulTag, IsLawfulKey, IsLawfulView, IsLawfulReply};
+ghost use Rattle.wire_msg.specs.Outputs.{nothing_out, IsMade};
+ghost use Rattle.wire_msg.specs.Posts.{ArePostsOf};
 ghost use Rattle.wire_msg.specs.Sizes.{bulk_of};
-ghost use Rattle.migration.specs.Move.{IsMade, step, started};
-ghost use Rattle.migration.specs.Sound.{HasQuorums, IsStrongView};
+ghost use Rattle.migration.specs.Move.{step, started, ends_stale};
+ghost use Rattle.migration.specs.Sound.{PutsOut};
 
 use crate::looking::Told;
-use crate::sending::{ask_directory, no_bulk};
+use crate::rule::MoveRule;
 use crate::stage::Stage;
 use call_phase::Phase;
 use span_base::{DcSet, KeyId};
 use std::alloc::{AllocError, Global};
-use std::marker::Model;
-use wire_msg::{Bulk, Message, Outputs, Tag};
+use std::marker::{Model, PhantomData};
+use wire_msg::{Bulk, Message, Outputs, Reply, Tag, ask_directory};
 
-/// A move of a strong key from its current epoch to the latest one, by a proxy. It takes the
-/// answers to its requests one by one, and puts out what is to be sent.
+/// A move of a key from its current epoch to the latest one, by a proxy. It takes the answers to
+/// its requests one by one, and puts out what is to be sent.
 #[derive(Debug, Drop)]
-pub struct MoveCall {
+pub struct MoveCall<R> {
     pub(crate) key: KeyId,
     pub(crate) phase: Phase,
     pub(crate) stage: Stage,
+    rule: PhantomData<R>,
 }
 
-impl Model for MoveCall {
+impl<R> Model for MoveCall<R> {
     ghost use Rattle.migration.specs.Move.{Moving};
     ghost use Rattle.migration.specs.Sound.{IsSoundMove};
 
@@ -34,7 +36,7 @@ impl Model for MoveCall {
     ghost invariant = { λ call. IsSoundMove (record { key = call.key; phase = call.phase; stage = call.stage }) };
 }
 
-impl MoveCall {
+impl<R: MoveRule> MoveCall<R> {
     /// Starts a move with the tag of its first phase, which asks the directory for the key's
     /// epochs.
     pub fn start(
@@ -42,7 +44,7 @@ impl MoveCall {
         tag: Tag,
         key: KeyId,
         out: &mut Outputs,
-    ) -> Result<MoveCall, AllocError>
+    ) -> Result<MoveCall<R>, AllocError>
         requires tag { IsLawfulTag tag }
         requires first { tag.phase ≡ 1 }
         requires key { IsLawfulKey key }
@@ -50,17 +52,25 @@ impl MoveCall {
         ensures ok { IfOk result (λ call. IsMade (started tag key) call out.new) }
         ensures err { OnErr result (out.new ≡ out.old) }
         ensures lawful { OnOk result (AreLawful out.new.posts) }
+        ensures posts { IfOk result (λ call. ArePostsOf key call.phase.asked out.new.posts) }
     {
         out.posts = ask_directory(alloc, Message::Lookup { tag, key })?;
         Ok(MoveCall {
             key,
             phase: Phase::open(tag, DcSet::empty()),
             stage: Stage::Looking,
+            rule: PhantomData,
         })
     }
 
-    /// Takes a message. One that doesn't count changes nothing and puts nothing out. Of a Here
-    /// that counts the policies are those of a strong key.
+    /// The tag of the present phase, or of the one in which the move ended.
+    pub fn tag(&self) -> Tag
+        ensures { result ≡ self.now.phase.tag }
+    {
+        self.phase.tag
+    }
+
+    /// Takes a message. One that doesn't count changes nothing and puts nothing out.
     #[tactic(auto, unfolding(crate::specs::Move::step))]
     pub fn take(
         &mut self,
@@ -69,12 +79,14 @@ impl MoveCall {
         out: &mut Outputs,
     ) -> Result<(), AllocError>
         requires lawful { IsLawful message.now }
-        requires quorums { HasQuorums self.old message.now }
         requires empty { out.old ≡ nothing_out }
-        ensures ok { OnOk result (IsMade (step self.old message.now) self.new out.new) }
+        ensures ok { OnOk result (IsMade (step R.rule self.old message.now) self.new out.new) }
         ensures err { OnErr result ((self.new ≡ self.old) × (out.new ≡ out.old)) }
         ensures lawful { OnOk result (AreLawful out.new.posts) }
-        ensures view { OnOk result (IfSome out.new.view IsStrongView) }
+        ensures posts { OnOk result (ArePostsOf self.new.key self.new.phase.asked out.new.posts) }
+        ensures ticket { OnOk result (out.new.ticket ≡ None) }
+        ensures view { OnOk result (IfSome out.new.view IsLawfulView) }
+        ensures end { OnOk result (IfSome out.new.end IsLawfulReply) }
     {
         match message {
             Message::Here {
@@ -121,7 +133,7 @@ impl MoveCall {
     /// How much `take` of this message sends. It takes no memory.
     #[tactic(auto, unfolding(crate::specs::Move::step))]
     pub fn bulk(&self, message: &Message) -> Bulk
-        ensures { result ≡ bulk_of (step self.now message.now).out.posts }
+        ensures { result ≡ bulk_of (step R.rule self.now message.now).out.posts }
     {
         match message {
             Message::Here {
@@ -141,7 +153,29 @@ impl MoveCall {
             Message::Yes { tag, replica } => self.bulk_of_yes(tag, *replica),
             Message::Gone { tag, replica, .. } => self.bulk_of_gone(tag, *replica),
             Message::Switched { tag, done, .. } => self.bulk_of_switched(tag, *done),
-            _ => no_bulk(),
+            _ => Bulk::none(),
         }
+    }
+
+    /// The move comes too late: it is over, and the directory is asked what is current.
+    pub(crate) fn fall_behind(
+        &mut self,
+        alloc: Global,
+        epoch: u32,
+        out: &mut Outputs,
+    ) -> Result<(), AllocError>
+        requires empty { out.old ≡ nothing_out }
+        ensures ok { OnOk result (IsMade (ends_stale self.old epoch) self.new out.new) }
+        ensures err { OnErr result ((self.new ≡ self.old) × (out.new ≡ out.old)) }
+        ensures out { OnOk result (PutsOut self.new out.new) }
+    {
+        let lookup = Message::Lookup {
+            tag: self.phase.next_tag(),
+            key: self.key,
+        };
+        out.posts = ask_directory(alloc, lookup)?;
+        out.end = Some(Reply::Stale { epoch });
+        self.stage = Stage::Ended;
+        Ok(())
     }
 }

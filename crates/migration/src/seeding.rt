@@ -1,20 +1,19 @@
 ghost use Rattle.std.specs.Prelude.{◌≡◌, ◌≤◌, ℕ, OnOk, OnErr};
-ghost use Rattle.wire_msg.specs.Lawful.{AreLawful};
-ghost use Rattle.wire_msg.specs.Outputs.{nothing_out};
+ghost use Rattle.wire_msg.specs.Outputs.{nothing_out, IsMade};
 ghost use Rattle.wire_msg.specs.Sizes.{bulk_of};
-ghost use Rattle.migration.specs.Move.{IsMade, on_yes, on_gone};
+ghost use Rattle.migration.specs.Move.{on_yes, on_gone};
+ghost use Rattle.migration.specs.Sound.{PutsOut};
 
 use crate::move_call::MoveCall;
-use crate::parts::tolerance;
-use crate::sending::{ask_directory, bulk_to_directory, no_bulk};
+use crate::rule::MoveRule;
 use crate::stage::Stage;
 use call_phase::Phase;
 use span_base::{DcId, DcSet};
 use std::alloc::{AllocError, Global};
 use wire_msg::sizes::{LOOKUP_BYTES, SWITCH_BYTES};
-use wire_msg::{Bulk, Message, Outputs, Reply, Tag};
+use wire_msg::{Bulk, Message, Outputs, Tag, ask_directory};
 
-impl MoveCall {
+impl<R: MoveRule> MoveCall<R> {
     /// Takes that a replica stored the version under the new epoch.
     pub(crate) fn take_yes(
         &mut self,
@@ -24,10 +23,10 @@ impl MoveCall {
         out: &mut Outputs,
     ) -> Result<(), AllocError>
         requires empty { out.old ≡ nothing_out }
-        ensures ok { let step = on_yes self.old self.old.stage tag.now replica in
+        ensures ok { let step = on_yes R.rule self.old self.old.stage tag.now replica in
             OnOk result (IsMade step self.new out.new) }
         ensures err { OnErr result ((self.new ≡ self.old) × (out.new ≡ out.old)) }
-        ensures lawful { OnOk result (AreLawful out.new.posts) }
+        ensures out { OnOk result (PutsOut self.new out.new) }
     {
         let Stage::Seeding { old, new, .. } = &self.stage else {
             return Ok(());
@@ -37,7 +36,7 @@ impl MoveCall {
         }
         let mut phase = self.phase;
         phase.take_good(replica);
-        if !phase.has_quorum(tolerance(&new.policy)) {
+        if !R::is_seeded(&new.policy, &phase) {
             self.phase = phase;
             return Ok(());
         }
@@ -56,20 +55,20 @@ impl MoveCall {
 
     /// How much `take_yes` sends.
     pub(crate) fn bulk_of_yes(&self, tag: &Tag, replica: DcId) -> Bulk
-        ensures { result ≡ bulk_of (on_yes self.now self.now.stage tag.now replica).out.posts }
+        ensures { result ≡ bulk_of (on_yes R.rule self.now self.now.stage tag.now replica).out.posts }
     {
         let Stage::Seeding { new, .. } = &self.stage else {
-            return no_bulk();
+            return Bulk::none();
         };
         if !self.phase.counts(tag, replica) {
-            return no_bulk();
+            return Bulk::none();
         }
         let mut phase = self.phase;
         phase.take_good(replica);
-        if phase.has_quorum(tolerance(&new.policy)) {
-            bulk_to_directory(SWITCH_BYTES)
+        if R::is_seeded(&new.policy, &phase) {
+            Bulk::one(SWITCH_BYTES)
         } else {
-            no_bulk()
+            Bulk::none()
         }
     }
 
@@ -83,10 +82,10 @@ impl MoveCall {
         out: &mut Outputs,
     ) -> Result<(), AllocError>
         requires empty { out.old ≡ nothing_out }
-        ensures ok { let step = on_gone self.old self.old.stage tag.now replica epoch in
+        ensures ok { let step = on_gone R.rule self.old self.old.stage tag.now replica epoch in
             OnOk result (IsMade step self.new out.new) }
         ensures err { OnErr result ((self.new ≡ self.old) × (out.new ≡ out.old)) }
-        ensures lawful { OnOk result (AreLawful out.new.posts) }
+        ensures out { OnOk result (PutsOut self.new out.new) }
     {
         let Stage::Seeding { new, top_gone, .. } = &mut self.stage else {
             return Ok(());
@@ -97,39 +96,32 @@ impl MoveCall {
         let top = (*top_gone).max(epoch);
         let mut phase = self.phase;
         phase.take_bad(replica);
-        if !phase.is_lost(tolerance(&new.policy)) {
+        if !R::is_lost(&new.policy, &phase) {
             *top_gone = top;
             self.phase = phase;
             return Ok(());
         }
-        let lookup = Message::Lookup {
-            tag: self.phase.next_tag(),
-            key: self.key,
-        };
-        out.posts = ask_directory(alloc, lookup)?;
-        out.end = Some(Reply::Stale { epoch: top });
-        self.stage = Stage::Ended;
-        Ok(())
+        self.fall_behind(alloc, top, out)
     }
 
     /// How much `take_gone` sends.
     pub(crate) fn bulk_of_gone(&self, tag: &Tag, replica: DcId) -> Bulk
         ensures { (epoch : ℕ) →
-            let step = on_gone self.now self.now.stage tag.now replica epoch in
+            let step = on_gone R.rule self.now self.now.stage tag.now replica epoch in
             result ≡ bulk_of step.out.posts }
     {
         let Stage::Seeding { new, .. } = &self.stage else {
-            return no_bulk();
+            return Bulk::none();
         };
         if !self.phase.counts(tag, replica) {
-            return no_bulk();
+            return Bulk::none();
         }
         let mut phase = self.phase;
         phase.take_bad(replica);
-        if phase.is_lost(tolerance(&new.policy)) {
-            bulk_to_directory(LOOKUP_BYTES)
+        if R::is_lost(&new.policy, &phase) {
+            Bulk::one(LOOKUP_BYTES)
         } else {
-            no_bulk()
+            Bulk::none()
         }
     }
 }

@@ -1,19 +1,18 @@
-ghost use Rattle.std.specs.Prelude.{◌≡◌, ◌≤◌, ℕ, OnOk, OnErr, IfSome};
-ghost use Rattle.wire_msg.specs.Lawful.{AreLawful};
-ghost use Rattle.wire_msg.specs.Outputs.{nothing_out};
+ghost use Rattle.std.specs.Prelude.{◌≡◌, ℕ, OnOk, OnErr};
+ghost use Rattle.wire_msg.specs.Outputs.{nothing_out, IsMade};
 ghost use Rattle.wire_msg.specs.Sizes.{bulk_of};
-ghost use Rattle.migration.specs.Move.{IsMade, on_switched};
-ghost use Rattle.migration.specs.Sound.{IsStrongView};
+ghost use Rattle.migration.specs.Move.{on_switched};
+ghost use Rattle.migration.specs.Sound.{PutsOut};
 
 use crate::move_call::MoveCall;
-use crate::sending::{ask_directory, bulk_to_directory, no_bulk};
+use crate::rule::MoveRule;
 use crate::stage::Stage;
 use std::alloc::{AllocError, Global};
 use std::mem::replace;
 use wire_msg::sizes::LOOKUP_BYTES;
-use wire_msg::{Bulk, Message, Outputs, Reply, Tag, View};
+use wire_msg::{Bulk, Outputs, Reply, Tag, View};
 
-impl MoveCall {
+impl<R: MoveRule> MoveCall<R> {
     /// Takes whether the directory switched, and the current epoch after it.
     pub(crate) fn take_switched(
         &mut self,
@@ -27,8 +26,7 @@ impl MoveCall {
         ensures ok { let step = on_switched self.old self.old.stage tag.now done epoch in
             OnOk result (IsMade step self.new out.new) }
         ensures err { OnErr result ((self.new ≡ self.old) × (out.new ≡ out.old)) }
-        ensures lawful { OnOk result (AreLawful out.new.posts) }
-        ensures view { OnOk result (IfSome out.new.view IsStrongView) }
+        ensures out { OnOk result (PutsOut self.new out.new) }
     {
         let Stage::Switching { .. } = &self.stage else {
             return Ok(());
@@ -37,14 +35,7 @@ impl MoveCall {
             return Ok(());
         }
         if !done {
-            let lookup = Message::Lookup {
-                tag: self.phase.next_tag(),
-                key: self.key,
-            };
-            out.posts = ask_directory(alloc, lookup)?;
-            out.end = Some(Reply::Stale { epoch });
-            self.stage = Stage::Ended;
-            return Ok(());
+            return self.fall_behind(alloc, epoch, out);
         }
         if let Stage::Switching { new, .. } = replace(&mut self.stage, Stage::Ended) {
             out.end = Some(Reply::At { epoch: new.number });
@@ -64,11 +55,11 @@ impl MoveCall {
             result ≡ bulk_of step.out.posts }
     {
         let Stage::Switching { .. } = &self.stage else {
-            return no_bulk();
+            return Bulk::none();
         };
         if !self.phase.has_tag(tag) || done {
-            return no_bulk();
+            return Bulk::none();
         }
-        bulk_to_directory(LOOKUP_BYTES)
+        Bulk::one(LOOKUP_BYTES)
     }
 }

@@ -1,18 +1,43 @@
-ghost use Rattle.std.specs.Prelude.{◌≡◌, ◌<◌, ◌≤◌, IfOk};
-ghost use Rattle.span_base.specs.Policy.{IsQuorumPolicy};
+ghost use Rattle.std.specs.Prelude.{◌≡◌, ◌≤◌, IfOk};
+ghost use Rattle.span_base.specs.Policy.{IsSoundPolicy};
+ghost use Rattle.wire_msg.specs.Lawful.{IsLawful, IsLawfulTag};
 
-use crate::MoveCall;
-use span_base::{Call, DcId, DcSet, KeyId, Listed, Policy, Quorum, Value, is_quorum};
+use crate::{EventualMove, MoveCall, MoveRule, StrongMove};
+use span_base::{Call, DcId, DcSet, KeyId, Listed, Near, Policy, Quorum, Value, is_sound};
 use std::alloc::{AllocError, Global};
 use std::test::Fail;
 use ticket_rules::Stamp;
-use wire_msg::{Actor, Message, Outputs, Post, Reply, Tag};
+use wire_msg::{Message, Outputs, Reply, Tag};
 
-const KEY: KeyId = KeyId(9);
+/// What a move takes.
+#[derive(Clone, Copy, Debug)]
+enum Step {
+    /// A new move begins.
+    Start,
+    /// The directory tells epoch 1 and this latest one.
+    Here(u32),
+    /// A replica is frozen.
+    Have(u8),
+    /// A replica has the seed.
+    Yes(u8),
+    /// A replica is frozen up to this epoch already.
+    Gone(u8, u32),
+    /// The directory switched or not.
+    Switched(bool),
+}
 
-/// The tag of a phase of the call that moves.
+/// The posts: what the first one is, by its letter, and their number; and how the move ends.
+#[derive(Clone, Copy, Debug, PartialEq, Eq)]
+struct Outcome {
+    first: u8,
+    posts: usize,
+    end: u8,
+}
+
 fn tag(phase: u8) -> Tag
-    ensures { result ≡ record { call = record { proxy = 3; seq = 7 }; slot = 2; generation = 5; phase = phase } }
+    requires { 1 ≤ phase }
+    ensures lawful { IsLawfulTag result }
+    ensures phase { result.phase ≡ phase }
 {
     Tag {
         call: Call { proxy: 3, seq: 7 },
@@ -22,326 +47,187 @@ fn tag(phase: u8) -> Tag
     }
 }
 
-fn stamp(number: u64) -> Stamp
-    ensures { result ≡ record { epoch = 1; number = number; proxy = 4; seq = 1 } }
+/// One member and the replicas 0, 1 and 2, of which one may fail.
+fn policy(alloc: Global, is_strong: bool) -> Result<Policy, AllocError>
+    ensures { IfOk result IsSoundPolicy }
 {
-    Stamp {
-        epoch: 1,
-        number,
-        proxy: 4,
-        seq: 1,
-    }
-}
-
-/// One member that reads from and writes to replicas 0, 1 and 2, of which one may fail.
-fn policy(alloc: Global) -> Result<Policy, AllocError>
-    ensures { IfOk result (λ policy. IsQuorumPolicy policy) }
-{
-    let all = DcSet::from_bits(7);
-    let member = Quorum {
-        dc: DcId(0),
-        read: all,
-        write: all,
+    let policy = if is_strong {
+        strong(alloc)?
+    } else {
+        eventual(alloc)?
     };
-    let policy = Policy::Strong {
-        f: 1,
-        replicas: all,
-        members: Listed::from_vec(Vec::from_array(alloc, [member])?),
-    };
-    if is_quorum(&policy) {
+    if is_sound(&policy) {
         Ok(policy)
     } else {
         Err(AllocError)
     }
 }
 
-/// What a move puts out as the directory tells the key's epochs.
-fn hear(alloc: Global, call: &mut MoveCall, epoch: u32, latest: u32) -> Result<Outputs, AllocError>
-    requires epoch { 1 ≤ epoch }
-    requires latest { 1 ≤ latest }
+fn strong(alloc: Global) -> Result<Policy, AllocError> {
+    let all = DcSet::from_bits(7);
+    let member = Quorum {
+        dc: DcId(0),
+        read: all,
+        write: all,
+    };
+    Ok(Policy::Strong {
+        f: 1,
+        replicas: all,
+        members: Listed::from_vec(Vec::from_array(alloc, [member])?),
+    })
+}
+
+fn eventual(alloc: Global) -> Result<Policy, AllocError> {
+    let near = Near {
+        member: DcId(0),
+        at: DcId(0),
+    };
+    Ok(Policy::Direct {
+        f: 1,
+        replicas: DcSet::from_bits(7),
+        primary: Listed::from_vec(Vec::from_array(alloc, [near])?),
+    })
+}
+
+fn here(alloc: Global, is_strong: bool, latest_epoch: u32) -> Result<Message, AllocError>
+    ensures { IfOk result IsLawful }
 {
-    let message = Message::Here {
+    Ok(Message::Here {
         tag: tag(1),
-        key: KEY,
-        epoch,
-        policy: policy(alloc)?,
-        latest_epoch: latest,
-        latest_policy: policy(alloc)?,
-    };
-    let mut out = Outputs::make(alloc);
-    call.take(alloc, &message, &mut out)?;
-    Ok(out)
-}
-
-/// As a replica is frozen.
-fn freeze(
-    alloc: Global,
-    call: &mut MoveCall,
-    replica: u8,
-    number: u64,
-    byte: u8,
-) -> Result<Outputs, AllocError>
-    requires { replica < 16 }
-{
-    let message = Message::Have {
-        tag: tag(2),
-        replica: DcId(replica),
-        version: stamp(number),
-        mark: stamp(1),
-        value: Value::from_vec(Vec::from_array(alloc, [byte])?),
-    };
-    let mut out = Outputs::make(alloc);
-    call.take(alloc, &message, &mut out)?;
-    Ok(out)
-}
-
-/// As a replica says yes.
-fn store(alloc: Global, call: &mut MoveCall, phase: u8, replica: u8) -> Result<Outputs, AllocError>
-    requires phase { 1 ≤ phase }
-    requires replica { replica < 16 }
-{
-    let message = Message::Yes {
-        tag: tag(phase),
-        replica: DcId(replica),
-    };
-    let mut out = Outputs::make(alloc);
-    call.take(alloc, &message, &mut out)?;
-    Ok(out)
-}
-
-/// As a replica refuses the seed.
-fn refuse(
-    alloc: Global,
-    call: &mut MoveCall,
-    replica: u8,
-    epoch: u32,
-) -> Result<Outputs, AllocError>
-    requires { replica < 16 }
-{
-    let message = Message::Gone {
-        tag: tag(3),
-        replica: DcId(replica),
-        epoch,
-    };
-    let mut out = Outputs::make(alloc);
-    call.take(alloc, &message, &mut out)?;
-    Ok(out)
-}
-
-/// As the directory switched or not.
-fn switch(alloc: Global, call: &mut MoveCall, done: bool, epoch: u32) -> Result<Outputs, AllocError>
-    requires { 1 ≤ epoch }
-{
-    let message = Message::Switched {
-        tag: tag(4),
-        key: KEY,
-        done,
-        epoch,
-    };
-    let mut out = Outputs::make(alloc);
-    call.take(alloc, &message, &mut out)?;
-    Ok(out)
-}
-
-/// A move that asked the directory.
-fn looking(alloc: Global) -> Result<MoveCall, AllocError> {
-    MoveCall::start(alloc, tag(1), KEY, &mut Outputs::make(alloc))
-}
-
-/// A move from epoch 1 to epoch 2 that asked the three replicas to end epoch 1.
-fn freezing(alloc: Global) -> Result<MoveCall, AllocError> {
-    let mut call = looking(alloc)?;
-    hear(alloc, &mut call, 1, 2)?;
-    Ok(call)
-}
-
-/// The same where replicas 0 and 1 are frozen.
-fn seeding(alloc: Global) -> Result<MoveCall, AllocError> {
-    let mut call = freezing(alloc)?;
-    freeze(alloc, &mut call, 0, 5, b'a')?;
-    freeze(alloc, &mut call, 1, 5, b'b')?;
-    Ok(call)
-}
-
-/// The same where replicas 0 and 1 stored the version under epoch 2.
-fn switching(alloc: Global) -> Result<MoveCall, AllocError> {
-    let mut call = seeding(alloc)?;
-    store(alloc, &mut call, 3, 0)?;
-    store(alloc, &mut call, 3, 1)?;
-    Ok(call)
-}
-
-/// Whether nothing is put out.
-fn is_silent(out: &Outputs) -> bool {
-    out.posts.is_empty() && out.ticket.is_none() && out.view.is_none() && out.end.is_none()
-}
-
-fn is_freeze(post: &Post, replica: u8) -> bool {
-    let freeze = Message::Freeze {
-        tag: tag(2),
-        key: KEY,
+        key: KeyId(9),
         epoch: 1,
-    };
-    post.to == Actor::Replica(replica) && post.message == freeze
+        policy: policy(alloc, is_strong)?,
+        latest_epoch: latest_epoch.max(1),
+        latest_policy: policy(alloc, is_strong)?,
+    })
 }
 
-/// Whether the post seeds the value under epoch 2.
-fn is_seed(post: &Post, replica: u8, byte: u8) -> bool {
-    match &post.message {
-        Message::Seed {
-            tag: seeds,
-            key,
+/// The message of a step, with a replica below 16; a frozen replica has the empty value that it
+/// opened with.
+fn message(alloc: Global, is_strong: bool, step: Step) -> Result<Message, AllocError>
+    ensures { IfOk result IsLawful }
+{
+    Ok(match step {
+        Step::Start => Message::Lookup {
+            tag: tag(1),
+            key: KeyId(9),
+        },
+        Step::Here(latest) => here(alloc, is_strong, latest)?,
+        Step::Have(replica) => Message::Have {
+            tag: tag(2),
+            replica: DcId(replica % 16),
+            version: Stamp::zero(),
+            mark: Stamp::zero(),
+            value: Value::empty(alloc),
+        },
+        Step::Yes(replica) => Message::Yes {
+            tag: tag(3),
+            replica: DcId(replica % 16),
+        },
+        Step::Gone(replica, epoch) => Message::Gone {
+            tag: tag(3),
+            replica: DcId(replica % 16),
             epoch,
-            stamp: kept,
-            value,
-        } => {
-            post.to == Actor::Replica(replica)
-                && *seeds == tag(3)
-                && *key == KEY
-                && *epoch == 2
-                && *kept == stamp(5)
-                && value.as_slice() == [byte].as_slice()
-        }
-        _ => false,
-    }
+        },
+        Step::Switched(done) => Message::Switched {
+            tag: tag(4),
+            key: KeyId(9),
+            done,
+            epoch: 3,
+        },
+    })
 }
 
-/// Whether this message alone is put out, to the directory.
-fn asks_directory(out: &Outputs, message: &Message) -> bool {
-    match out.posts.as_slice() {
-        [post] => post.to == Actor::Directory && post.message == *message,
-        _ => false,
-    }
-}
-
-/// Whether the move is stale: the directory is asked for its epochs in this phase.
-fn is_stale(out: &Outputs, phase: u8, epoch: u32) -> bool {
-    let lookup = Message::Lookup {
-        tag: tag(phase),
-        key: KEY,
-    };
-    asks_directory(out, &lookup) && out.end == Some(Reply::Stale { epoch })
-}
-
-#[test]
-fn a_move_asks_the_directory(rt: HostRuntime) -> Result<(), Fail> {
-    let mut out = Outputs::make(rt.alloc());
-    let _call = MoveCall::start(rt.alloc(), tag(1), KEY, &mut out)?;
-    let lookup = Message::Lookup {
-        tag: tag(1),
-        key: KEY,
-    };
-    assert!(rt; asks_directory(&out, &lookup));
-    Ok(())
-}
-
-#[test]
-fn a_current_key_stays(rt: HostRuntime) -> Result<(), Fail> {
-    let mut call = looking(rt.alloc())?;
-    let out = hear(rt.alloc(), &mut call, 3, 3)?;
-    assert!(rt; out.posts.is_empty() && out.end == Some(Reply::Current { epoch: 3 }));
-    Ok(())
-}
-
-#[test]
-fn the_old_epoch_is_frozen(rt: HostRuntime) -> Result<(), Fail> {
-    let mut call = looking(rt.alloc())?;
-    let out = hear(rt.alloc(), &mut call, 1, 2)?;
+fn outcome_of(out: &Outputs) -> Outcome {
     let posts = out.posts.as_slice();
-    assert_eq!(rt; posts.len(), 3);
-    assert!(rt; is_freeze(&posts[0], 0) && is_freeze(&posts[1], 1) && is_freeze(&posts[2], 2));
+    Outcome {
+        first: posts.first().map_or(b'-', |post| letter(&post.message)),
+        posts: posts.len(),
+        end: match &out.end {
+            Some(Reply::At { .. }) => b'A',
+            Some(Reply::Current { .. }) => b'C',
+            Some(Reply::Stale { .. }) => b'S',
+            Some(_) => b'?',
+            None => b'-',
+        },
+    }
+}
+
+fn letter(message: &Message) -> u8 {
+    match message {
+        Message::Lookup { .. } => b'L',
+        Message::Freeze { .. } => b'F',
+        Message::Seed { .. } => b'S',
+        Message::Switch { .. } => b'W',
+        _ => b'?',
+    }
+}
+
+/// What a move puts out in a step. A new one takes the place of the old one.
+fn take<R: MoveRule + Drop>(
+    alloc: Global,
+    call: &mut MoveCall<R>,
+    is_strong: bool,
+    step: Step,
+) -> Result<Outcome, AllocError> {
+    let mut out = Outputs::make(alloc);
+    if let Step::Start = step {
+        *call = MoveCall::start(alloc, tag(1), KeyId(9), &mut out)?;
+    } else {
+        call.take(alloc, &message(alloc, is_strong, step)?, &mut out)?;
+    }
+    Ok(outcome_of(&out))
+}
+
+#[test]
+fn strong_moves_go_their_ways(rt: HostRuntime) -> Result<(), Fail> {
+    let alloc = rt.alloc();
+    let mut call = StrongMove::start(alloc, tag(1), KeyId(9), &mut Outputs::make(alloc))?;
+    for (step, first, posts, end) in [
+        (Step::Start, b'L', 1, b'-'),
+        (Step::Here(1), b'-', 0, b'C'),
+        (Step::Start, b'L', 1, b'-'),
+        (Step::Here(2), b'F', 3, b'-'),
+        (Step::Have(0), b'-', 0, b'-'),
+        (Step::Have(2), b'S', 3, b'-'),
+        (Step::Gone(1, 4), b'-', 0, b'-'),
+        (Step::Yes(2), b'-', 0, b'-'),
+        (Step::Yes(0), b'W', 1, b'-'),
+        (Step::Switched(true), b'-', 0, b'A'),
+        (Step::Start, b'L', 1, b'-'),
+        (Step::Here(2), b'F', 3, b'-'),
+        (Step::Have(1), b'-', 0, b'-'),
+        (Step::Have(0), b'S', 3, b'-'),
+        (Step::Gone(0, 4), b'-', 0, b'-'),
+        (Step::Gone(1, 3), b'L', 1, b'S'),
+    ] {
+        let wanted = Outcome { first, posts, end };
+        assert_eq!(rt; take(alloc, &mut call, true, step)?, wanted, "{step:?}");
+    }
     Ok(())
 }
 
 #[test]
-fn the_first_of_equal_versions_is_seeded(rt: HostRuntime) -> Result<(), Fail> {
-    let mut call = freezing(rt.alloc())?;
-    let first = freeze(rt.alloc(), &mut call, 0, 5, b'a')?;
-    assert!(rt; is_silent(&first));
-    let second = freeze(rt.alloc(), &mut call, 2, 5, b'b')?;
-    let posts = second.posts.as_slice();
-    assert_eq!(rt; posts.len(), 3);
-    assert!(rt; is_seed(&posts[0], 0, b'a') && is_seed(&posts[2], 2, b'a'));
-    Ok(())
-}
-
-#[test]
-fn a_bulk_is_known_before(rt: HostRuntime) -> Result<(), Fail> {
-    let mut call = freezing(rt.alloc())?;
-    freeze(rt.alloc(), &mut call, 0, 5, b'a')?;
-    let message = Message::Have {
-        tag: tag(2),
-        replica: DcId(2),
-        version: stamp(6),
-        mark: stamp(1),
-        value: Value::from_vec(Vec::from_array(rt.alloc(), [b'b'])?),
-    };
-    let bulk = call.bulk(&message);
-    assert!(rt; bulk.posts == 3 && bulk.bytes == 114);
-    Ok(())
-}
-
-#[test]
-fn two_seeds_are_enough(rt: HostRuntime) -> Result<(), Fail> {
-    let mut call = seeding(rt.alloc())?;
-    let first = store(rt.alloc(), &mut call, 3, 2)?;
-    assert!(rt; is_silent(&first));
-    let second = store(rt.alloc(), &mut call, 3, 0)?;
-    let switch = Message::Switch {
-        tag: tag(4),
-        key: KEY,
-        closing: 1,
-        opening: 2,
-    };
-    assert!(rt; asks_directory(&second, &switch) && second.end.is_none());
-    Ok(())
-}
-
-#[test]
-fn a_done_move_knows_the_new_epoch(rt: HostRuntime) -> Result<(), Fail> {
-    let mut call = switching(rt.alloc())?;
-    let out = switch(rt.alloc(), &mut call, true, 2)?;
-    assert!(rt; out.posts.is_empty() && out.end == Some(Reply::At { epoch: 2 }));
-    let view = out.view.ok_or("no view")?;
-    assert!(rt; view.key == KEY && view.epoch == 2 && is_quorum(&view.policy));
-    Ok(())
-}
-
-#[test]
-fn a_move_that_came_second_is_stale(rt: HostRuntime) -> Result<(), Fail> {
-    let mut call = switching(rt.alloc())?;
-    let out = switch(rt.alloc(), &mut call, false, 3)?;
-    assert!(rt; is_stale(&out, 5, 3));
-    let after = switch(rt.alloc(), &mut call, true, 2)?;
-    assert!(rt; is_silent(&after));
-    Ok(())
-}
-
-#[test]
-fn two_refused_seeds_end_the_move(rt: HostRuntime) -> Result<(), Fail> {
-    let mut call = seeding(rt.alloc())?;
-    let first = refuse(rt.alloc(), &mut call, 0, 4)?;
-    assert!(rt; is_silent(&first));
-    let second = refuse(rt.alloc(), &mut call, 1, 3)?;
-    assert!(rt; is_stale(&second, 4, 4));
-    Ok(())
-}
-
-#[test]
-fn a_second_answer_does_not_count(rt: HostRuntime) -> Result<(), Fail> {
-    let mut call = freezing(rt.alloc())?;
-    freeze(rt.alloc(), &mut call, 0, 5, b'a')?;
-    let again = freeze(rt.alloc(), &mut call, 0, 6, b'b')?;
-    assert!(rt; is_silent(&again));
-    Ok(())
-}
-
-#[test]
-fn strange_answers_do_not_count(rt: HostRuntime) -> Result<(), Fail> {
-    let mut call = seeding(rt.alloc())?;
-    let strange = store(rt.alloc(), &mut call, 3, 3)?;
-    let early = store(rt.alloc(), &mut call, 2, 1)?;
-    let one = store(rt.alloc(), &mut call, 3, 1)?;
-    assert!(rt; is_silent(&strange) && is_silent(&early) && is_silent(&one));
+fn eventual_moves_go_their_ways(rt: HostRuntime) -> Result<(), Fail> {
+    let alloc = rt.alloc();
+    let mut call = EventualMove::start(alloc, tag(1), KeyId(9), &mut Outputs::make(alloc))?;
+    for (step, first, posts, end) in [
+        (Step::Here(2), b'F', 3, b'-'),
+        (Step::Have(0), b'-', 0, b'-'),
+        (Step::Have(2), b'-', 0, b'-'),
+        (Step::Have(1), b'S', 3, b'-'),
+        (Step::Yes(2), b'-', 0, b'-'),
+        (Step::Yes(0), b'W', 1, b'-'),
+        (Step::Switched(false), b'L', 1, b'S'),
+        (Step::Start, b'L', 1, b'-'),
+        (Step::Here(2), b'F', 3, b'-'),
+        (Step::Have(0), b'-', 0, b'-'),
+        (Step::Have(2), b'-', 0, b'-'),
+        (Step::Have(1), b'S', 3, b'-'),
+        (Step::Gone(1, 3), b'L', 1, b'S'),
+    ] {
+        let wanted = Outcome { first, posts, end };
+        assert_eq!(rt; take(alloc, &mut call, false, step)?, wanted, "{step:?}");
+    }
     Ok(())
 }

@@ -6,8 +6,8 @@ use Rattle.migration.proofs.Steps.{here_bulk}
 use Rattle.migration.proofs.move_call.MoveCall.bulk_of_here.Goals as goal
 
 pub returns : goal.returns
-returns c = λ latest.
+returns g c = λ latest.
     let told : Epoch = epoch_at c.args.epoch c.args.policy.now in
     let last : Epoch = epoch_at c.args.latest_epoch latest in
-    subst (λ (call : Moving). c.bulk_to_each.result ≡ bulk_of (on_here call call.stage c.args.tag.now told last).out.posts) c.self.view_is
-    (rw (c.bulk_to_each.ensures, c.replicas.ensures) (sym (here_bulk _ c.args.tag.now told last c.in-Looking.is (sym c.has_tag.ensures ∙ c.if-not-has_tag.false) (ne_eqb _ _ c.if-epoch-latest_epoch.false))))
+    subst (λ (call : Moving). c.to_each.result ≡ bulk_of (on_here call call.stage c.args.tag.now told last).out.posts) c.self.view_is
+    (rw (c.to_each.ensures, c.replicas.ensures) (sym (here_bulk _ c.args.tag.now told last c.in-Looking.is (sym c.has_tag.ensures ∙ c.if-not-has_tag.false) (ne_eqb _ _ c.if-epoch-latest_epoch.false))))

@@ -1,4 +1,0 @@
-pub mod Policies
-pub mod State
-pub mod Rule
-pub mod Stages
