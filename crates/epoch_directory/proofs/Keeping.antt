@@ -1,6 +1,6 @@
 -- What is true of every directory is true of a new one, and after a table is published.
-use Rattle.std.proofs.Common.{◌≡◌, ℕ, ◌-◌, ◌<◌, ◌≤◌, Bool, true, false, List, [], map, Option, Some, None, length, get_or, refl, ap, ◌∙◌, sym, subst, arith}
-use Rattle.std.specs.Prelude.{IsSomeAnd, unwrap_or}
+use Rattle.std.proofs.Common.{◌≡◌, ℕ, ◌-◌, ◌<◌, ◌≤◌, Bool, true, false, cond, List, [], map, Option, Some, None, length, get_or, refl, ap, ◌∙◌, sym, subst, arith}
+use Rattle.std.specs.Prelude.{unwrap_or}
 use Rattle.std.specs.List.{All}
 use Rattle.std.proofs.lemmas.List.{length-map, length-replicate, get_or-map}
 use Rattle.std.proofs.lemmas.List.Elements.{All-nil, All-cons, All-map, All-replicate, All-from_get_or}
@@ -11,8 +11,10 @@ use Rattle.span_base.specs.Policy.{IsSoundPolicy, IsQuorumPolicy}
 use Rattle.epoch_directory.specs.declared.table.KeySet.{KeySet}
 use Rattle.epoch_directory.specs.declared.table.SetPolicy.{SetPolicy}
 use Rattle.epoch_directory.specs.State.{State, opening, latest, policy_in, no_policy, table_in, set_count, is_strong_set, HasSameMode, IsTable, IsPublished, IsDirectory}
-use Rattle.epoch_directory.specs.Tables.{listed, policy_after, table_after, IsNextTable, IsFirstFault}
+use Rattle.epoch_directory.specs.Tables.{listed, fault_of_listed, table_fault, policy_after, table_after, IsNextTable}
 use Rattle.epoch_directory.proofs.Lines.{line_of_listed}
+use Rattle.epoch_directory.proofs.LeastFault.{right_everywhere}
+use Rattle.epoch_directory.proofs.Quorums.{listed_quorum}
 
 -- a policy has its own mode
 same_mode : (policy : Policy) → HasSameMode policy policy
@@ -47,7 +49,7 @@ quorum_is_sound (Relay f replicas primary parent) quorums = absurd quorums
 quorum_is_sound (Strong f replicas members) quorums = quorums
 
 -- a set's policy in the next epoch is sound, and has the mode of the set's first one
-policy_after_right : (state : State) (table : List SetPolicy) (set : ℕ) → IsDirectory state → IsNextTable state table → IsFirstFault state table None → set < set_count state
+policy_after_right : (state : State) (table : List SetPolicy) (set : ℕ) → IsDirectory state → IsNextTable state table → table_fault state table ≡ None → set < set_count state
     → IsSoundPolicy (policy_after state table set) × HasSameMode (policy_in state 1 set) (policy_after state table set)
 policy_after_right state table set kept next right exists = at (listed table set) refl where
   first : Policy
@@ -55,7 +57,8 @@ policy_after_right state table set kept next right exists = at (listed table set
 
   strong : (policy : Policy) (b : Bool) → is_strong_set state set ≡ b → listed table set ≡ Some policy → (line : SetPolicy) → (is_strong_set state line.set.0 ≡ false → IsSoundPolicy line.policy) → line.set.0 ≡ set → line.policy ≡ policy → IsSoundPolicy policy
   strong policy true e there line sound here same =
-      quorum_is_sound policy (subst (λ o. IsSomeAnd o IsQuorumPolicy) there (right set exists e))
+      let nothing : fault_of_listed set (listed table set) ≡ None = sym (ap (λ b. cond b (fault_of_listed set (listed table set)) None) e) ∙ right_everywhere state table right set exists in
+      quorum_is_sound policy (listed_quorum set (listed table set) policy there nothing)
   strong policy false e there line sound here same =
       subst IsSoundPolicy same (sound (ap (is_strong_set state) here ∙ e))
 
@@ -69,7 +72,7 @@ policy_after_right state table set kept next right exists = at (listed table set
       (strong policy (is_strong_set state set) refl e sound.0 sound.1 sound.2 sound.3, subst (HasSameMode first) mode.3 (subst (λ (n : ℕ). HasSameMode (policy_in state 1 n) mode.0.policy) mode.2 mode.1))
 
 -- the table of the next epoch is as a table has to be
-pub table_after_whole : (state : State) (table : List SetPolicy) → IsDirectory state → IsNextTable state table → IsFirstFault state table None → IsTable (table_in state 1) (table_after state table)
+pub table_after_whole : (state : State) (table : List SetPolicy) → IsDirectory state → IsNextTable state table → table_fault state table ≡ None → IsTable (table_in state 1) (table_after state table)
 table_after_whole state table kept next right = record {
   whole = length-map-range_with_len (policy_after state table) 0 (set_count state);
   sound = All-from_get_or IsSoundPolicy (table_after state table) no_policy (λ i within.

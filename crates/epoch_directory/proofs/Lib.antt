@@ -1,2 +1,7 @@
 pub mod Lines
+pub mod LeastFault
+pub mod Quorums
 pub mod Keeping
+pub mod Following
+pub mod Endings
+pub mod Addressed

@@ -13,7 +13,7 @@ use Rattle.epoch_directory.specs.declared.table.SetPolicy.{SetPolicy}
 use Rattle.epoch_directory.specs.Tables.{is_line_of, listed}
 
 -- the first item that passes is found
-find_first : {X : Type 0} (p : X → Bool) (xs : List X) (i : ℕ) (d : X) → i < length xs → p (get_or xs i d) ≡ true → ((k : ℕ) → k < i → p (get_or xs k d) ≡ false) → find p xs ≡ Some (get_or xs i d)
+pub find_first : {X : Type 0} (p : X → Bool) (xs : List X) (i : ℕ) (d : X) → i < length xs → p (get_or xs i d) ≡ true → ((k : ℕ) → k < i → p (get_or xs k d) ≡ false) → find p xs ≡ Some (get_or xs i d)
 find_first p [] i d within passes before = absurd (omega arith)
 find_first p (x ∷ xs) zero d within passes before =
     ap (λ b. cond b (Some x) (find p xs)) passes

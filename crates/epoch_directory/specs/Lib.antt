@@ -1,3 +1,4 @@
 pub mod State
 pub mod Tables
 pub mod Step
+pub mod Laws

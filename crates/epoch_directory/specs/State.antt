@@ -1,5 +1,5 @@
 -- What a contract sees of a directory.
-use Rattle.std.specs.Prelude.{◌≡◌, ℕ, ◌-◌, ◌≤◌, ◌<◌, Bool, true, false, List, [], ◌∷◌, length, map, replicate, slice_index, slice_index_or}
+use Rattle.std.specs.Prelude.{◌≡◌, ℕ, ◌-◌, ◌≤◌, ◌<◌, Bool, true, false, ◌&&◌, nat_lt, List, [], ◌∷◌, length, map, replicate, slice_index, slice_index_or}
 use Rattle.std.specs.List.{All}
 use Rattle.span_base.specs.DcSet.{no_centre}
 use Rattle.span_base.specs.Policy.{IsSoundPolicy}
@@ -56,6 +56,10 @@ is_strong_set state set = is_strong (policy_in state 1 set)
 -- the set of a key
 abbrev pub set_of : State → KeyId → ℕ
 set_of state key = slice_index state.sets key.0
+
+-- the key is one of the directory's, and its set is strong
+abbrev pub is_strong_key : State → KeyId → Bool
+is_strong_key state key = nat_lt key.0 (length state.sets) && is_strong_set state (set_of state key)
 
 -- the current epoch of a key
 abbrev pub current_of : State → KeyId → ℕ

@@ -1,28 +1,16 @@
 -- The rule: what a directory does with a message.
-use Rattle.std.specs.Prelude.{ℕ, ◌<◌, ◌==◌, ◌&&◌, Bool, nat_lt, nat_le, List, [], ◌∷◌, length, slice_set, None, if◌then◌else◌}
+use Rattle.std.specs.Prelude.{ℕ, ◌<◌, ◌==◌, ◌&&◌, Bool, nat_lt, nat_le, length, slice_set, if◌then◌else◌}
 use Rattle.span_base.specs.declared.ids.KeyId.{KeyId}
 use Rattle.wire_msg.specs.declared.tag.Tag.{Tag}
-use Rattle.wire_msg.specs.declared.actor.Actor.TheVariants.{Proxy}
 use Rattle.wire_msg.specs.declared.message.Message.{Message}
 use Rattle.wire_msg.specs.declared.message.Message.TheVariants.{Lookup, Switch, Here, Switched}
-use Rattle.wire_msg.specs.declared.outputs.Post.{Post}
-use Rattle.wire_msg.specs.declared.outputs.Outputs.{Outputs}
-use Rattle.wire_msg.specs.Outputs.{nothing_out}
+use Rattle.wire_msg.specs.Outputs.{nothing_out, only_posts, Step}
+use Rattle.wire_msg.specs.Posts.{to_proxy}
 use Rattle.epoch_directory.specs.State.{State, latest, policy_in, set_of, current_of}
 
--- the state after a message, and what is put out
-pub record Step : Type 0 where
-  pub state : State
-  pub out : Outputs
-
--- one message to the proxy of the tag
-abbrev pub answer : Tag → Message → List Post
-answer tag message = record { to = Proxy tag.call.proxy; message = message } ∷ []
-
--- the state, and an answer
-abbrev pub answered : State → List Post → Step
-answered state posts =
-    record { state = state; out = record { posts = posts; ticket = None; view = None; end = None } }
+-- the state, and an answer to the proxy of the tag
+abbrev pub answered : State → Tag → Message → Step State
+answered state tag message = record { state = state; out = only_posts (to_proxy tag message) }
 
 -- the current epoch of a key and the latest one, each with its policy
 abbrev pub here_of : State → Tag → KeyId → Message
@@ -49,10 +37,10 @@ switched_of state tag key closing opening =
     Switched tag key (can_switch state key closing opening) (current_of (after_switch state key closing opening) key)
 
 -- what a directory does with a message
-abbrev pub step : State → Message → Step
-step state (Lookup tag key) = answered state (answer tag (here_of state tag key))
+abbrev pub step : State → Message → Step State
+step state (Lookup tag key) = answered state tag (here_of state tag key)
 step state (Switch tag key closing opening) =
-    answered (after_switch state key closing opening) (answer tag (switched_of state tag key closing opening))
+    answered (after_switch state key closing opening) tag (switched_of state tag key closing opening)
 step state _ = record { state = state; out = nothing_out }
 
 -- the key of a Lookup or a Switch is one of the keys

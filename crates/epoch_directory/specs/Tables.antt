@@ -1,11 +1,14 @@
 -- How a table opens the next epoch, and what may be wrong with it.
-use Rattle.std.specs.Prelude.{◌≡◌, ◌≢◌, ℕ, ◌+◌, ◌<◌, ◌==◌, Bool, false, List, [], ◌∷◌, ◌++◌, map, Option, Some, None, option_map, unwrap_or, IsSomeAnd, Result, Ok, Err, IsTrue}
+use Rattle.std.specs.Prelude.{◌≡◌, ◌≢◌, ℕ, ◌+◌, ◌<◌, ◌==◌, Bool, false, if◌then◌else◌, List, [], ◌∷◌, ◌++◌, map, Option, Some, None, is_some, option_map, unwrap_or, Result, Ok, Err}
 use Rattle.std.specs.List.{All, AllPairs, find, range_with_len}
-use Rattle.span_base.specs.Policy.{IsSoundPolicy, IsQuorumPolicy}
+use Rattle.std.specs.Option.{option_map_or}
+use Rattle.span_base.specs.Policy.{IsSoundPolicy}
 use Rattle.span_base.specs.declared.policy.Policy.{Policy}
+use Rattle.span_base.specs.declared.policy.Policy.TheVariants.{Direct, Relay, Strong}
+use Rattle.wire_msg.specs.Sound.{are_quorums}
 use Rattle.epoch_directory.specs.declared.table.SetPolicy.{SetPolicy}
 use Rattle.epoch_directory.specs.declared.table.PublishFault.{PublishFault}
-use Rattle.epoch_directory.specs.declared.table.PublishFault.TheVariants.{Limit, MissingSet, NotQuorum, Memory}
+use Rattle.epoch_directory.specs.declared.table.PublishFault.TheVariants.{Limit, MissingSet, NotQuorum, NoMemory}
 use Rattle.epoch_directory.specs.State.{State, latest, policy_in, set_count, is_strong_set, HasSameMode}
 
 -- the line is that of the set
@@ -23,38 +26,35 @@ pub record IsNextTable (state : State) (table : List SetPolicy) : Type 0 where
   pub modes : All (λ line. HasSameMode (policy_in state 1 line.set.0) line.policy) table
   pub sound : All (λ line. is_strong_set state line.set.0 ≡ false → IsSoundPolicy line.policy) table
 
--- what is wrong with a table at a set: a strong one has to be listed, with a quorum policy
-abbrev pub IsFaultAt : State → List SetPolicy → ℕ → Option PublishFault → Type 0
-IsFaultAt state table set None =
-    IsTrue (is_strong_set state set) → IsSomeAnd (listed table set) IsQuorumPolicy
-IsFaultAt state table set (Some (MissingSet missing)) =
-    (missing.0 ≡ set) × IsTrue (is_strong_set state set) × (listed table set ≡ None)
-IsFaultAt state table set (Some (NotQuorum wrong)) =
-    (wrong.0 ≡ set) × IsTrue (is_strong_set state set) × IsSomeAnd (listed table set) (λ policy. ¬ IsQuorumPolicy policy)
-IsFaultAt state table set (Some (Limit number)) = ⊥
-IsFaultAt state table set (Some (Memory error)) = ⊥
+-- the policy is strong, and its quorums meet
+abbrev pub is_quorum_policy : Policy → Bool
+is_quorum_policy (Direct f replicas primary) = false
+is_quorum_policy (Relay f replicas primary parent) = false
+is_quorum_policy (Strong f replicas members) = are_quorums f replicas members
 
--- nothing is wrong at the sets below this one
-abbrev pub IsRightBelow : State → List SetPolicy → ℕ → Type 0
-IsRightBelow state table set = (lower : ℕ) → lower < set → IsFaultAt state table lower None
+-- what is wrong with what a table lists for a strong set
+abbrev pub fault_of_listed : ℕ → Option Policy → Option PublishFault
+fault_of_listed set None = Some (MissingSet (record { 0 = set }))
+fault_of_listed set (Some policy) = if is_quorum_policy policy then None else Some (NotQuorum (record { 0 = set }))
+
+-- what is wrong with a table at a set: nothing may be at an eventual one
+abbrev pub fault_at : State → List SetPolicy → ℕ → Option PublishFault
+fault_at state table set = if is_strong_set state set then fault_of_listed set (listed table set) else None
 
 -- what is wrong with a table at the least set at which something is
-abbrev pub IsFirstFault : State → List SetPolicy → Option PublishFault → Type 0
-IsFirstFault state table None = IsRightBelow state table (set_count state)
-IsFirstFault state table (Some fault) =
-    (set : ℕ) × (set < set_count state) × IsFaultAt state table set (Some fault) × IsRightBelow state table set
+unfoldable pub table_fault : State → List SetPolicy → Option PublishFault
+table_fault state table =
+    option_map_or (fault_at state table) (find (λ set. is_some (fault_at state table set)) (range_with_len 0 (set_count state))) None
+
+-- the epoch that a table opens, or why it opens none
+abbrev pub next_epoch : State → List SetPolicy → Result ℕ PublishFault
+next_epoch state table =
+    if latest state == 1000 then Err (Limit 1001) else option_map_or (λ fault. Err fault) (table_fault state table) (Ok (latest state + 1))
 
 -- how publishing a table ends: memory is asked for only where nothing else is wrong
 abbrev pub PublishEnds : State → List SetPolicy → Result ℕ PublishFault → Type 0
-PublishEnds state table (Ok epoch) =
-    (latest state < 1000) × IsFirstFault state table None × (epoch ≡ latest state + 1)
-PublishEnds state table (Err (Limit number)) = (latest state ≡ 1000) × (number ≡ 1001)
-PublishEnds state table (Err (MissingSet set)) =
-    (latest state < 1000) × IsFirstFault state table (Some (MissingSet set))
-PublishEnds state table (Err (NotQuorum set)) =
-    (latest state < 1000) × IsFirstFault state table (Some (NotQuorum set))
-PublishEnds state table (Err (Memory error)) =
-    (latest state < 1000) × IsFirstFault state table None
+PublishEnds state table (Err (NoMemory error)) = next_epoch state table ≡ Ok (latest state + 1)
+PublishEnds state table result = result ≡ next_epoch state table
 
 -- the policy of a set in the next epoch: the listed one, or else that of the latest epoch
 abbrev pub policy_after : State → List SetPolicy → ℕ → Policy

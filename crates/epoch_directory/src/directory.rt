@@ -1,12 +1,20 @@
-ghost use Rattle.std.specs.Prelude.{◌≡◌, ◌+◌, ◌<◌, ◌≤◌, length, IfOk};
+ghost use Rattle.std.specs.Prelude.{◌≡◌, ◌+◌, ◌<◌, ◌≤◌, length, IfOk, OnOk, OnErr};
 ghost use Rattle.std.specs.List.{All};
 ghost use Rattle.span_base.specs.Policy.{IsSoundPolicy};
+ghost use Rattle.wire_msg.specs.Lawful.{IsLawful, AreLawful};
+ghost use Rattle.wire_msg.specs.Outputs.{nothing_out, only_posts, IsMade};
+ghost use Rattle.wire_msg.specs.Posts.{AreAnswersTo};
+ghost use Rattle.wire_msg.specs.Sizes.{bulk_of};
+ghost use Rattle.epoch_directory.specs.State.{opening, latest, set_count, policy_in, current_of, set_of, is_strong_key, IsPublished, IsDirectory};
+ghost use Rattle.epoch_directory.specs.Step.{step, HasItsKey};
 
 use crate::publish::EPOCHS;
 use crate::table::KeySet;
 use span_base::{KeyId, Listed, Policy, SetId};
 use std::alloc::{AllocError, Global};
 use std::marker::Model;
+use wire_msg::sizes::SWITCHED_BYTES;
+use wire_msg::{Bulk, Message, Outputs};
 
 /// The published tables, whose epochs are 1, 2, 3 and so on, and the epoch that each key is in.
 #[derive(Debug, Drop)]
@@ -29,8 +37,6 @@ impl Model for Directory {
 }
 
 impl Directory {
-    ghost use Rattle.epoch_directory.specs.State.{opening, latest, set_count, policy_in, current_of, set_of, IsPublished, IsDirectory};
-
     /// A directory of these keys, at most 1,000, in whose one epoch these are the policies of the
     /// sets, at most 64.
     pub fn make(
@@ -63,6 +69,67 @@ impl Directory {
         ensures kept { IsDirectory self.now }
     {
         self.tables.len() as u32
+    }
+
+    /// How many keys there are: key 0, key 1 and so on.
+    pub fn keys(&self) -> u16
+        ensures value { result ≡ length self.now.sets }
+        ensures few { result ≤ 1000 }
+    {
+        self.keys.len() as u16
+    }
+
+    /// Whether the key is one of the directory's, and its set is strong in every epoch.
+    pub fn is_strong_key(&self, key: KeyId) -> bool
+        ensures { result ≡ is_strong_key self.now key }
+    {
+        key.0 < self.keys() && self.is_strong_set(self.set_of(key))
+    }
+
+    /// Takes a message, and puts out the answer to a Lookup and to a Switch. Any other message
+    /// changes nothing and has no answer.
+    #[tactic(auto, using(wire_msg::proofs::Sent::no_answers))]
+    pub fn take(
+        &mut self,
+        alloc: Global,
+        message: &Message,
+        out: &mut Outputs,
+    ) -> Result<(), AllocError>
+        requires lawful { IsLawful message.now }
+        requires key { HasItsKey self.old message.now }
+        requires empty { out.old ≡ nothing_out }
+        ensures ok { OnOk result (IsMade (step self.old message.now) self.new out.new) }
+        ensures err { OnErr result ((self.new ≡ self.old) × (out.new ≡ out.old)) }
+        ensures lawful { OnOk result (AreLawful out.new.posts) }
+        ensures posts { OnOk result (AreAnswersTo message.now out.new.posts) }
+        // No ticket, no view and no end.
+        ensures only { OnOk result (out.new ≡ only_posts out.new.posts) }
+        ensures keys { length self.new.sets ≡ length self.old.sets }
+    {
+        match message {
+            Message::Lookup { tag, key } => out.posts = self.take_lookup(alloc, *tag, *key)?,
+            Message::Switch {
+                tag,
+                key,
+                closing,
+                opening,
+            } => out.posts = self.take_switch(alloc, *tag, *key, *closing, *opening)?,
+            _ => {}
+        }
+        Ok(())
+    }
+
+    /// How much `take` puts out for the message. It takes no memory.
+    pub fn bulk(&self, message: &Message) -> Bulk
+        requires lawful { IsLawful message.now }
+        requires key { HasItsKey self.now message.now }
+        ensures { result ≡ bulk_of (step self.now message.now).out.posts }
+    {
+        match message {
+            Message::Lookup { key, .. } => Bulk::one(self.here_bytes(*key)),
+            Message::Switch { .. } => Bulk::one(SWITCHED_BYTES),
+            _ => Bulk::none(),
+        }
     }
 
     /// How many sets there are.

@@ -199,28 +199,24 @@ pub(crate) fn publish(
     directory.publish(alloc, table)
 }
 
-/// The answer to a message, and how many bytes were told for it.
+/// The answer to a message: one post to the tag's proxy.
 fn answer_to(
     rt: &impl Abort,
     alloc: Global,
     directory: &mut Directory,
     message: &Message,
-) -> Result<(Message, u64), AllocError>
+) -> Result<Message, AllocError>
     requires lawful { IsLawful message.now }
     requires key { HasItsKey directory.old message.now }
 {
-    let bulk = directory.bulk(message);
     let mut out = Outputs::make(alloc);
     directory.take(alloc, message, &mut out)?;
-    assert!(rt; out.ticket.is_none() && out.view.is_none() && out.end.is_none());
     let mut posts = out.posts.into_vec();
     let Some(Post { to, message }) = posts.pop() else {
         panic!(rt; "no answer")
     };
     assert_eq!(rt; to, Actor::Proxy(5));
-    assert_eq!(rt; bulk.posts, 1);
-    assert!(rt; posts.is_empty());
-    Ok((message, bulk.bytes))
+    Ok(message)
 }
 
 pub(crate) fn look_up(
@@ -228,8 +224,8 @@ pub(crate) fn look_up(
     alloc: Global,
     directory: &mut Directory,
     key: u16,
-) -> Result<(Message, u64), AllocError> {
-    assert!(rt; key < 1000 && usize::from(key) < directory.keys.len());
+) -> Result<Message, AllocError> {
+    assert!(rt; key < directory.keys());
     let message = Message::Lookup {
         tag: TAG,
         key: KeyId(key),
@@ -237,32 +233,20 @@ pub(crate) fn look_up(
     answer_to(rt, alloc, directory, &message)
 }
 
-/// Whether a Switch of key 0 is done, and the epoch that is told.
+/// The answer to a Switch of key 0.
 pub(crate) fn switch(
     rt: &impl Abort,
     alloc: Global,
     directory: &mut Directory,
     closing: u32,
     opening: u32,
-) -> Result<(bool, u32), AllocError> {
-    assert!(rt; 1 <= closing && 1 <= opening && directory.keys.len() > 0);
+) -> Result<Message, AllocError> {
+    assert!(rt; 1 <= closing && 1 <= opening && directory.keys() > 0);
     let message = Message::Switch {
         tag: TAG,
         key: KeyId(0),
         closing,
         opening,
     };
-    match answer_to(rt, alloc, directory, &message)?.0 {
-        Message::Switched {
-            tag,
-            key,
-            done,
-            epoch,
-        } => {
-            assert_eq!(rt; tag, TAG);
-            assert_eq!(rt; key, KeyId(0));
-            Ok((done, epoch))
-        }
-        _ => panic!(rt; "another answer"),
-    }
+    answer_to(rt, alloc, directory, &message)
 }

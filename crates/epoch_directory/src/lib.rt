@@ -2,9 +2,11 @@
 //! is in.
 #![tactic(auto)]
 
-mod answers;
 mod directory;
+pub mod laws;
+mod lookup;
 mod publish;
+mod switch;
 mod table;
 
 pub use directory::Directory;

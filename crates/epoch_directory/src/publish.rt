@@ -1,5 +1,8 @@
-ghost use Rattle.std.specs.Prelude.{◌≡◌, ◌≢◌, ℕ, ◌+◌, ◌<◌, ◌++◌, ◌∷◌, [], None, IfOk, OnOk, OnErr, IsTrue, ◌↔◌};
-ghost use Rattle.span_base.specs.Policy.{IsSoundPolicy};
+//! How a table opens the next epoch.
+
+ghost use Rattle.std.specs.Prelude.{◌≡◌, ◌≢◌, ℕ, ◌+◌, ◌<◌, ◌++◌, ◌∷◌, [], IfOk, OnOk, OnErr};
+ghost use Rattle.epoch_directory.specs.State.{latest, set_count, table_in, is_strong_set, IsTable};
+ghost use Rattle.epoch_directory.specs.Tables.{IsNextTable, is_quorum_policy, fault_at, table_fault, PublishEnds, listed, policy_after, table_after, after_publish};
 
 use crate::directory::Directory;
 use crate::table::{PublishFault, SetPolicy, listed, take_listed};
@@ -10,9 +13,6 @@ use std::alloc::{AllocError, Global};
 pub const EPOCHS: u32 = 1000;
 
 impl Directory {
-    ghost use Rattle.epoch_directory.specs.State.{latest, set_count, table_in, is_strong_set, IsTable};
-    ghost use Rattle.epoch_directory.specs.Tables.{IsNextTable, IsFaultAt, IsFirstFault, PublishEnds, listed, policy_after, table_after, after_publish};
-
     /// Opens the next epoch, whose number is answered: a set that is listed has the listed policy
     /// there, another set keeps the one before. Each key stays in its epoch.
     pub fn publish(&mut self, alloc: Global, table: Vec<SetPolicy>) -> Result<u32, PublishFault>
@@ -21,11 +21,12 @@ impl Directory {
         ensures ok { OnOk result (self.new ≡ after_publish self.old table.items) }
         ensures err { OnErr result (self.new ≡ self.old) }
     {
-        let number = self.tables.len() as u32 + 1;
-        if number > EPOCHS {
+        let latest = self.epochs();
+        let number = latest + 1;
+        if latest == EPOCHS {
             return Err(PublishFault::Limit { number });
         }
-        if let Some(fault) = self.first_fault(table.as_slice()) {
+        if let Some(fault) = self.table_fault(table.as_slice()) {
             return Err(fault);
         }
         let next = self.next_table(alloc, table)?;
@@ -34,8 +35,9 @@ impl Directory {
     }
 
     /// What is wrong with a table, at the least set at which something is.
-    fn first_fault(&self, table: &[SetPolicy]) -> Option<PublishFault>
-        ensures { IsFirstFault self.now table.now result }
+    #[tactic(auto, using(crate::proofs::LeastFault::fault_found, crate::proofs::LeastFault::no_fault))]
+    fn table_fault(&self, table: &[SetPolicy]) -> Option<PublishFault>
+        ensures { result ≡ table_fault self.now table.now }
     {
         for number in 0..self.set_count() {
             if let Some(fault) = self.fault_at(table, SetId(number)) {
@@ -48,14 +50,14 @@ impl Directory {
     /// What is wrong with a table at a set.
     fn fault_at(&self, table: &[SetPolicy], set: SetId) -> Option<PublishFault>
         requires { set.0 < set_count self.now }
-        ensures { IsFaultAt self.now table.now set.0 result }
+        ensures { result ≡ fault_at self.now table.now set.0 }
     {
         if !self.is_strong_set(set) {
             return None;
         }
         match listed(table, set) {
             None => Some(PublishFault::MissingSet { set }),
-            Some(policy) if is_quorum(policy) => None,
+            Some(policy) if is_quorum_policy(policy) => None,
             Some(_) => Some(PublishFault::NotQuorum { set }),
         }
     }
@@ -105,4 +107,11 @@ impl Directory {
         self.tables.push(policies)?;
         Ok(())
     }
+}
+
+/// Whether the policy is strong and its quorums meet, as the definition of faults tests it.
+fn is_quorum_policy(policy: &Policy) -> bool
+    ensures { result ≡ is_quorum_policy policy.now }
+{
+    is_quorum(policy)
 }

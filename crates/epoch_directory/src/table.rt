@@ -18,6 +18,19 @@ pub struct SetPolicy {
     pub policy: Policy,
 }
 
+impl Clone for SetPolicy {
+    ghost use Rattle.std.specs.Prelude.{◌≡◌};
+
+    ghost is_clone = { λ line copy. copy ≡ line };
+
+    fn clone(&self) -> Result<SetPolicy, AllocError> {
+        Ok(SetPolicy {
+            set: self.set,
+            policy: self.policy.clone()?,
+        })
+    }
+}
+
 /// Why a table isn't published.
 #[derive(Clone, Copy, Debug, PartialEq, Eq)]
 pub enum PublishFault {
@@ -27,17 +40,18 @@ pub enum PublishFault {
     MissingSet { set: SetId },
     /// This strong set's policy isn't one whose quorums meet.
     NotQuorum { set: SetId },
-    Memory(AllocError),
+    /// Memory ran out. Nothing else is wrong with the table.
+    NoMemory(AllocError),
 }
 
 impl From<AllocError> for PublishFault {
     ghost use Rattle.std.specs.Prelude.{◌≡◌};
-    ghost use Rattle.epoch_directory.specs.declared.table.PublishFault.TheVariants.{Memory};
+    ghost use Rattle.epoch_directory.specs.declared.table.PublishFault.TheVariants.{NoMemory};
 
-    ghost from_gives = { λ error fault. fault ≡ Memory error };
+    ghost from_gives = { λ error fault. fault ≡ NoMemory error };
 
     fn from(error: AllocError) -> PublishFault {
-        PublishFault::Memory(error)
+        PublishFault::NoMemory(error)
     }
 }
 

@@ -1,4 +1,5 @@
 pub mod SetOf
 pub mod PushLoop
 pub mod Primaries
-pub mod Laws
+pub mod Sendable
+pub mod Addressed

@@ -10,25 +10,25 @@ use Rattle.span_base.specs.declared.policy.Policy.TheVariants.{Direct, Relay, St
 use Rattle.span_base.specs.DcSet.{has}
 use Rattle.span_base.specs.Policy.{IsSoundPolicy}
 use Rattle.span_base.proofs.Sets.{has-below}
-use Rattle.relay_proxy.specs.Routes.{primary_of}
+use Rattle.span_base.specs.PolicyParts.{replicas_of, primary_of}
 
--- the primary that is found is a centre
-found_below : (replicas : DcSet) (member : ℕ) (primary : List Near) → All (λ n. IsTrue (has replicas n.at.0)) primary
-    → IfSome (option_map (λ n. n.at.0) (find (λ n. n.member.0 == member) primary)) (λ p. p < 16)
-found_below replicas member [] all = tt
-found_below replicas member (n ∷ ns) all =
-    elim (n.member.0 == member) as (λ b. IfSome (option_map (λ (x : Near). x.at.0) (cond b (Some n) (find (λ (x : Near). x.member.0 == member) ns))) (λ p. p < 16)) [
-      | true ↦ has-below replicas n.at.0 (All-head (λ (x : Near). IsTrue (has replicas x.at.0)) n ns all)
-      | false ↦ found_below replicas member ns (All-tail (λ (x : Near). IsTrue (has replicas x.at.0)) n ns all)
+-- the primary that is found is a replica
+found_among : (replicas : DcSet) (member : ℕ) (primary : List Near) → All (λ n. IsTrue (has replicas n.at.0)) primary
+    → IfSome (option_map (λ n. n.at.0) (find (λ n. n.member.0 == member) primary)) (λ p. IsTrue (has replicas p))
+found_among replicas member [] all = tt
+found_among replicas member (n ∷ ns) all =
+    elim (n.member.0 == member) as (λ b. IfSome (option_map (λ (x : Near). x.at.0) (cond b (Some n) (find (λ (x : Near). x.member.0 == member) ns))) (λ p. IsTrue (has replicas p))) [
+      | true ↦ All-head (λ (x : Near). IsTrue (has replicas x.at.0)) n ns all
+      | false ↦ found_among replicas member ns (All-tail (λ (x : Near). IsTrue (has replicas x.at.0)) n ns all)
     ]
 
-primary_below : (policy : Policy) (member : ℕ) → IsSoundPolicy policy → IfSome (primary_of policy member) (λ p. p < 16)
-primary_below (Direct f replicas primary) member sound = found_below replicas member primary sound.replica
-primary_below (Relay f replicas primary parent) member sound = found_below replicas member primary sound.0.replica
-primary_below (Strong f replicas members) member sound = tt
+-- a member's primary is a replica
+pub primary_among : (policy : Policy) (member : ℕ) → IsSoundPolicy policy → IfSome (primary_of policy member) (λ p. IsTrue (has (replicas_of policy) p))
+primary_among (Direct f replicas primary) member sound = found_among replicas member primary sound.replica
+primary_among (Relay f replicas primary parent) member sound = found_among replicas member primary sound.0.replica
+primary_among (Strong f replicas members) member sound = tt
 
--- a member's primary is a centre
+-- so it is a centre
 pub primary_is_centre : (policy : Policy) (member : ℕ) (p : DcId) → IsSoundPolicy policy → Some p.0 ≡ primary_of policy member → p.0 < 16
 primary_is_centre policy member p sound is =
-    let P : Option ℕ → Type 0 = λ o. IfSome o (λ q. q < 16) in
-    subst P (sym is) (primary_below policy member sound)
+    has-below (replicas_of policy) p.0 (subst (λ (o : Option ℕ). IfSome o (λ q. IsTrue (has (replicas_of policy) q))) (sym is) (primary_among policy member sound))

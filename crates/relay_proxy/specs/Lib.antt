@@ -1,4 +1,3 @@
 pub mod Routes
 pub mod State
-pub mod Replies
 pub mod Rule

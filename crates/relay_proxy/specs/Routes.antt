@@ -1,11 +1,12 @@
--- Where the clients of a member read and write an eventual key.
-use Rattle.std.specs.Prelude.{ℕ, zero, suc, Bool, ◌&&◌, not, ◌==◌, if◌then◌else◌, Option, None, option_map, find, List}
+-- How a member's write of an eventual key comes to each replica.
+use Rattle.std.specs.Prelude.{ℕ, zero, suc, Bool, ◌&&◌, not, ◌==◌, if◌then◌else◌, find, List}
 use Rattle.std.specs.List.{filter, range_with_len}
 use Rattle.std.specs.Option.{option_map_or}
 use Rattle.span_base.specs.declared.dc_set.DcSet.{DcSet}
 use Rattle.span_base.specs.DcSet.{has, no_centre, insert}
 use Rattle.span_base.specs.declared.policy.Policy.{Policy}
 use Rattle.span_base.specs.declared.policy.Policy.TheVariants.{Direct, Relay, Strong}
+use Rattle.span_base.specs.PolicyParts.{replicas_of}
 
 -- the set of the centres below n that pass the test
 unfoldable pub set_below : (ℕ → Bool) → ℕ → DcSet
@@ -15,22 +16,6 @@ set_below test (suc n) = if test n then insert (set_below test n) n else set_bel
 -- the set of the centres that pass the test
 unfoldable pub set_of : (ℕ → Bool) → DcSet
 set_of test = set_below test 16
-
-abbrev pub faults_of : Policy → ℕ
-faults_of (Direct f replicas primary) = f
-faults_of (Relay f replicas primary parent) = f
-faults_of (Strong f replicas members) = f
-
-abbrev pub replicas_of : Policy → DcSet
-replicas_of (Direct f replicas primary) = replicas
-replicas_of (Relay f replicas primary parent) = replicas
-replicas_of (Strong f replicas members) = replicas
-
--- the replica at which the member reads; only members of an eventual policy have one
-abbrev pub primary_of : Policy → ℕ → Option ℕ
-primary_of (Direct f replicas primary) member = option_map (λ n. n.at.0) (find (λ n. n.member.0 == member) primary)
-primary_of (Relay f replicas primary parent) member = option_map (λ n. n.at.0) (find (λ n. n.member.0 == member) primary)
-primary_of (Strong f replicas members) member = None
 
 -- where the member's write to the replica child comes from: child itself where it comes from the clients
 abbrev pub parent_of : Policy → ℕ → ℕ → ℕ

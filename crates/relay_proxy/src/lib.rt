@@ -3,13 +3,15 @@
 #![tactic(auto)]
 
 mod call;
-mod doing;
-mod enough;
-mod pushes;
+mod counting;
+mod ending;
+mod refusal;
+mod requests;
 mod routes;
+mod stage;
 
 pub use call::EventualCall;
-pub use doing::Doing;
+pub use stage::Stage;
 
 #[cfg(test)]
 mod tests;

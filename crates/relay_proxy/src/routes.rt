@@ -1,67 +1,11 @@
-ghost use Rattle.std.specs.Prelude.{◌≡◌, ℕ, ◌&&◌, ◌==◌, find, option_map};
+//! How a member's write comes to each replica.
+
+ghost use Rattle.std.specs.Prelude.{◌≡◌, ℕ, ◌&&◌, ◌==◌, find};
 ghost use Rattle.std.specs.Option.{option_map_or};
-ghost use Rattle.relay_proxy.specs.Routes.{set_of, faults_of, replicas_of, primary_of, parent_of, is_direct, is_onward, onward_of};
-ghost use Rattle.relay_proxy.specs.Rule.{asked_of};
 ghost use Rattle.span_base.specs.DcSet.{has};
-ghost use Rattle.span_base.specs.Policy.{IsSoundPolicy};
+ghost use Rattle.relay_proxy.specs.Routes.{parent_of, is_direct, is_onward, onward_of};
 
-use span_base::{CENTRES, DcId, DcSet, Hop, Near, Policy};
-use wire_msg::View;
-
-/// How many replicas may stop.
-pub(crate) fn faults(policy: &Policy) -> u8
-    ensures { result ≡ faults_of policy.now }
-{
-    match policy {
-        Policy::Direct { f, .. } | Policy::Relay { f, .. } | Policy::Strong { f, .. } => *f,
-    }
-}
-
-pub(crate) fn replicas(policy: &Policy) -> DcSet
-    ensures { result ≡ replicas_of policy.now }
-{
-    match policy {
-        Policy::Direct { replicas, .. }
-        | Policy::Relay { replicas, .. }
-        | Policy::Strong { replicas, .. } => *replicas,
-    }
-}
-
-/// The replica at which the clients of `member` read.
-pub(crate) fn primary(policy: &Policy, member: DcId) -> Option<DcId>
-    ensures { option_map (λ c. c.0) result ≡ primary_of policy.now member.0 }
-{
-    match policy {
-        Policy::Direct { primary, .. } => near_of(primary.as_slice(), member),
-        Policy::Relay { primary, .. } => near_of(primary.as_slice(), member),
-        Policy::Strong { .. } => None,
-    }
-}
-
-fn near_of(primary: &[Near], member: DcId) -> Option<DcId>
-    ensures { option_map (λ c. c.0) result ≡ option_map (λ n. n.at.0) (find (λ n. n.member.0 == member.0) primary.now) }
-{
-    for near in primary {
-        if near.member == member {
-            return Some(near.at);
-        }
-    }
-    None
-}
-
-/// Whom a get asks: every replica, or the primary of the member `at` alone.
-pub(crate) fn asked(view: &View, at: DcId, any: bool) -> DcSet
-    requires { IsSoundPolicy view.now.policy }
-    ensures { result ≡ asked_of view.now at.0 any }
-{
-    if any {
-        return replicas(&view.policy);
-    }
-    match primary(&view.policy, at) {
-        Some(primary) => DcSet::empty().with(primary),
-        None => DcSet::empty(),
-    }
-}
+use span_base::{CENTRES, DcId, DcSet, Hop, Policy};
 
 /// Where the write of `member` to the replica `child` comes from.
 fn parent(policy: &Policy, member: DcId, child: u8) -> u8
@@ -94,13 +38,13 @@ fn is_lane(hop: &Hop, member: DcId, child: u8) -> bool
 pub(crate) fn is_direct(policy: &Policy, member: DcId, d: u8) -> bool
     ensures { result ≡ is_direct policy.now member.0 d }
 {
-    replicas(policy).has(DcId(d)) && parent(policy, member, d) == d
+    policy.replicas().has(DcId(d)) && parent(policy, member, d) == d
 }
 
 fn is_onward(policy: &Policy, member: DcId, p: u8, d: u8) -> bool
     ensures { result ≡ is_onward policy.now member.0 p d }
 {
-    replicas(policy).has(DcId(d)) && parent(policy, member, d) == p && d != p
+    policy.replicas().has(DcId(d)) && parent(policy, member, d) == p && d != p
 }
 
 /// The other replicas that `p` passes the writes of `member` on to.

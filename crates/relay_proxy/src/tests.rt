@@ -1,6 +1,8 @@
-ghost use Rattle.std.specs.Prelude.{◌≡◌, ◌<◌, IfOk, IsSome, OnOk};
+//! How calls go, by hand: what a call puts out for the second of two answers.
+
+ghost use Rattle.std.specs.Prelude.{◌≡◌, IfOk, IsSome};
+ghost use Rattle.span_base.specs.PolicyParts.{primary_of};
 ghost use Rattle.wire_msg.specs.Lawful.{IsLawful, IsLawfulView};
-ghost use Rattle.relay_proxy.specs.Routes.{primary_of};
 
 use crate::EventualCall;
 use span_base::{Call, DcId, DcSet, Hop, KeyId, Listed, Near, Policy, Value, is_sound};
@@ -8,7 +10,7 @@ use std::alloc::{AllocError, Global};
 use std::process::Abort;
 use std::test::Fail;
 use ticket_rules::Stamp;
-use wire_msg::{Actor, Bulk, Message, Outputs, Post, Reply, Tag, View};
+use wire_msg::{Actor, Message, Outputs, Post, Reply, Tag, View};
 
 const TAG: Tag = Tag {
     call: Call { proxy: 3, seq: 7 },
@@ -65,166 +67,121 @@ fn two_replicas(alloc: Global, rt: &impl Abort) -> Result<View, AllocError>
     })
 }
 
-fn gone(replica: u8, epoch: u32) -> Message
-    requires { replica < 16 }
-    ensures { IsLawful result }
-{
-    Message::Gone {
-        tag: TAG,
-        replica: DcId(replica),
-        epoch,
-    }
+/// A call at the member 0. A put stores the empty value.
+#[derive(Clone, Copy)]
+enum Work {
+    Get,
+    GetAny,
+    Put,
 }
 
-fn yes(replica: u8) -> Message
-    requires { replica < 16 }
-    ensures { IsLawful result }
-{
-    Message::Yes {
-        tag: TAG,
-        replica: DcId(replica),
-    }
+/// An answer: its replica, and the epoch that is over.
+#[derive(Clone, Copy)]
+enum Heard {
+    /// The empty value, from the replica 1.
+    Have,
+    Yes(u8),
+    Gone(u8, u32),
 }
 
-/// The empty value, as the replica 1 has it.
-fn have(alloc: Global) -> Message
-    ensures { IsLawful result }
-{
-    Message::Have {
-        tag: TAG,
-        replica: DcId(1),
-        version: STAMP,
-        mark: STAMP,
-        value: Value::empty(alloc),
-    }
+#[derive(Clone, Copy)]
+enum End {
+    Not,
+    Value,
+    Stored,
+    /// The epoch that is over; the key is looked up.
+    Moved(u32),
 }
 
-/// What the call puts out as it takes the message.
-fn taken(alloc: Global, call: &mut EventualCall, message: &Message) -> Result<Outputs, AllocError>
-    requires { IsLawful message.now }
+fn begin(alloc: Global, view: &View, work: Work) -> Result<EventualCall, AllocError>
+    requires lawful { IsLawfulView view.now }
+    requires member { IsSome (primary_of view.now.policy 0) }
 {
+    let at = DcId(0);
     let mut out = Outputs::make(alloc);
-    call.take(alloc, message, &mut out)?;
+    match work {
+        Work::Get => EventualCall::get(alloc, TAG, at, view, false, &mut out),
+        Work::GetAny => EventualCall::get(alloc, TAG, at, view, true, &mut out),
+        Work::Put => {
+            let value = Value::empty(alloc);
+            EventualCall::put(alloc, TAG, at, view, STAMP, &value, &mut out)
+        }
+    }
+}
+
+fn message(alloc: Global, heard: Heard) -> Message
+    ensures { IsLawful result }
+{
+    match heard {
+        Heard::Have => Message::Have {
+            tag: TAG,
+            replica: DcId(1),
+            version: STAMP,
+            mark: STAMP,
+            value: Value::empty(alloc),
+        },
+        Heard::Yes(replica) => Message::Yes {
+            tag: TAG,
+            replica: DcId(replica.min(15)),
+        },
+        Heard::Gone(replica, epoch) => Message::Gone {
+            tag: TAG,
+            replica: DcId(replica.min(15)),
+            epoch,
+        },
+    }
+}
+
+/// What the call puts out as it takes the answer.
+fn taken(alloc: Global, call: &mut EventualCall, heard: Heard) -> Result<Outputs, AllocError> {
+    let mut out = Outputs::make(alloc);
+    call.take(alloc, &message(alloc, heard), &mut out)?;
     Ok(out)
 }
 
-/// What is put out where the call moves on from the epoch.
-fn moved(alloc: Global, epoch: u32) -> Result<Outputs, AllocError> {
-    let post = Post {
-        to: Actor::Directory,
-        message: Message::Lookup {
-            tag: LATER,
-            key: KeyId(8),
-        },
-    };
-    Ok(Outputs {
-        posts: Listed::from_vec(Vec::from_array(alloc, [post])?),
-        ticket: None,
-        view: None,
-        end: Some(Reply::Moved { epoch }),
-    })
-}
-
-fn ended(alloc: Global, reply: Reply) -> Outputs {
-    Outputs {
-        posts: Listed::new(alloc),
-        ticket: None,
-        view: None,
-        end: Some(reply),
-    }
-}
-
-fn read_at(replica: u8) -> Post {
-    Post {
-        to: Actor::Replica(replica),
-        message: Message::Read {
-            tag: TAG,
-            key: KeyId(8),
-            epoch: 4,
-        },
-    }
-}
-
-#[test]
-fn a_get_asks_the_primary(rt: HostRuntime) -> Result<(), Fail> {
-    let alloc = rt.alloc();
-    let view = two_replicas(alloc, &rt)?;
+fn outputs(alloc: Global, end: End) -> Result<Outputs, AllocError> {
     let mut out = Outputs::make(alloc);
-    let _call = EventualCall::get(alloc, TAG, DcId(0), &view, false, &mut out)?;
-    let posts = Vec::from_array(alloc, [read_at(1)])?;
-    assert_eq!(rt; out.posts, Listed::from_vec(posts));
-    assert_eq!(rt; out.end, None);
-    Ok(())
-}
-
-#[test]
-fn a_get_ends_by_a_version(rt: HostRuntime) -> Result<(), Fail> {
-    let alloc = rt.alloc();
-    let view = two_replicas(alloc, &rt)?;
-    let mut out = Outputs::make(alloc);
-    let mut call = EventualCall::get(alloc, TAG, DcId(0), &view, true, &mut out)?;
-    assert_eq!(rt; taken(alloc, &mut call, &gone(2, 4))?, Outputs::make(alloc));
-    let reply = Reply::Value {
-        stamp: STAMP,
-        value: Value::empty(alloc),
-    };
-    assert_eq!(rt; taken(alloc, &mut call, &have(alloc))?, ended(alloc, reply));
-    Ok(())
-}
-
-#[test]
-fn a_get_moves_on_once_every_replica_did(rt: HostRuntime) -> Result<(), Fail> {
-    let alloc = rt.alloc();
-    let view = two_replicas(alloc, &rt)?;
-    let mut out = Outputs::make(alloc);
-    let mut call = EventualCall::get(alloc, TAG, DcId(0), &view, true, &mut out)?;
-    taken(alloc, &mut call, &gone(2, 6))?;
-    let last = gone(1, 5);
-    assert_eq!(rt;
-        call.bulk(&last),
-        Bulk {
-            posts: 1,
-            bytes: 14
-        }
-    );
-    assert_eq!(rt; taken(alloc, &mut call, &last)?, moved(alloc, 6)?);
-    Ok(())
-}
-
-#[test]
-fn a_put_goes_through_a_parent(rt: HostRuntime) -> Result<(), Fail> {
-    let alloc = rt.alloc();
-    let view = two_replicas(alloc, &rt)?;
-    let mut out = Outputs::make(alloc);
-    let value = Value::empty(alloc);
-    let mut call = EventualCall::put(alloc, TAG, DcId(0), &view, STAMP, &value, &mut out)?;
-    let push = Post {
-        to: Actor::Replica(1),
-        message: Message::Push {
-            tag: TAG,
-            key: KeyId(8),
+    out.end = match end {
+        End::Not => None,
+        End::Value => Some(Reply::Value {
             stamp: STAMP,
-            onward: DcSet::from_bits(0b100),
-            value,
-        },
+            value: Value::empty(alloc),
+        }),
+        End::Stored => Some(Reply::Stored { stamp: STAMP }),
+        End::Moved(epoch) => {
+            out.posts.push(Post {
+                to: Actor::Directory,
+                message: Message::Lookup {
+                    tag: LATER,
+                    key: KeyId(8),
+                },
+            })?;
+            Some(Reply::Moved { epoch })
+        }
     };
-    assert_eq!(rt;
-        out.posts,
-        Listed::from_vec(Vec::from_array(alloc, [push])?)
-    );
-    let reply = Reply::Stored { stamp: STAMP };
-    assert_eq!(rt; taken(alloc, &mut call, &yes(2))?, ended(alloc, reply));
-    Ok(())
+    Ok(out)
 }
 
 #[test]
-fn a_put_moves_on_at_once(rt: HostRuntime) -> Result<(), Fail> {
+fn the_second_answer_has_this_end(rt: HostRuntime) -> Result<(), Fail> {
+    use Heard::*;
     let alloc = rt.alloc();
     let view = two_replicas(alloc, &rt)?;
-    let mut out = Outputs::make(alloc);
-    let value = Value::empty(alloc);
-    let mut call = EventualCall::put(alloc, TAG, DcId(0), &view, STAMP, &value, &mut out)?;
-    assert_eq!(rt; taken(alloc, &mut call, &gone(2, 4))?, moved(alloc, 4)?);
-    assert_eq!(rt; taken(alloc, &mut call, &yes(1))?, Outputs::make(alloc));
+    let rows = [
+        (Work::Get, Gone(2, 4), Have, End::Value),
+        (Work::Get, Yes(1), Gone(1, 5), End::Moved(5)),
+        (Work::GetAny, Gone(2, 4), Have, End::Value),
+        (Work::GetAny, Yes(1), Gone(2, 6), End::Not),
+        (Work::GetAny, Gone(2, 6), Gone(1, 5), End::Moved(6)),
+        (Work::GetAny, Have, Have, End::Not),
+        (Work::Put, Have, Yes(2), End::Stored),
+        (Work::Put, Have, Gone(2, 4), End::Moved(4)),
+        (Work::Put, Gone(2, 4), Yes(1), End::Not),
+    ];
+    for (work, first, second, end) in rows {
+        let mut call = begin(alloc, &view, work)?;
+        let _first = taken(alloc, &mut call, first)?;
+        assert_eq!(rt; taken(alloc, &mut call, second)?, outputs(alloc, end)?);
+    }
     Ok(())
 }

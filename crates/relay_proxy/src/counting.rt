@@ -1,3 +1,5 @@
+//! How many answers are enough.
+
 ghost use Rattle.std.specs.Prelude.{◌≡◌};
 ghost use Rattle.relay_proxy.specs.Rule.{is_stored, all_refused};
 

@@ -2,7 +2,8 @@ use ticket_rules::Stamp;
 
 /// What an eventual call does.
 #[derive(Clone, Copy, Debug, PartialEq, Eq)]
-pub enum Doing {
+pub enum Stage {
+    /// Waits for the first version.
     Getting,
     /// Stores its value with this stamp.
     Putting { stamp: Stamp },

@@ -1,6 +1,6 @@
 use Rattle.std.proofs.Common.{◌≡◌, ◌≤◌}
 use Rattle.relay_proxy.specs.Rule.{pushes_below}
-use Rattle.relay_proxy.proofs.pushes.push_to_each.Given as goal
+use Rattle.relay_proxy.proofs.requests.push_to_each.Given as goal
 
 abbrev pub invariant-loop-p : goal.invariant-loop-p
 invariant-loop-p l =

@@ -1,21 +1,13 @@
--- What is put out is lawful.
+-- What a put sends is lawful.
 use Rattle.std.proofs.Common.{ℕ, ◌≤◌, List, length}
 use Rattle.std.proofs.lemmas.List.Elements.{All-map}
 use Rattle.ticket_rules.specs.declared.stamp.Stamp.{Stamp}
-use Rattle.span_base.specs.declared.dc_set.DcSet.{DcSet}
-use Rattle.span_base.specs.DcSet.{centres_of}
 use Rattle.wire_msg.specs.declared.tag.Tag.{Tag}
-use Rattle.wire_msg.specs.declared.message.Message.{Message}
 use Rattle.wire_msg.specs.declared.outputs.View.{View}
 use Rattle.wire_msg.specs.declared.outputs.Post.{Post}
 use Rattle.wire_msg.specs.Lawful.{IsLawful, AreLawful, IsLawfulTag, IsLawfulKey, IsLawfulStamp}
-use Rattle.call_phase.specs.Requests.{post_to, posts_to}
 use Rattle.relay_proxy.specs.Routes.{directs_below}
 use Rattle.relay_proxy.specs.Rule.{push_to, pushes_below}
-
--- a lawful message to each replica of a set
-pub posts_lawful : (set : DcSet) (message : Message) → IsLawful message → AreLawful (posts_to set message)
-posts_lawful set message lawful = All-map (λ (post : Post). IsLawful post.message) (post_to message) (centres_of set) (λ k d h. lawful)
 
 -- the messages of a put
 pub pushes_lawful : (tag : Tag) (at : ℕ) (view : View) (stamp : Stamp) (value : List ℕ) (n : ℕ) → IsLawfulTag tag → IsLawfulKey view.key → IsLawfulStamp stamp → length value ≤ 4096
