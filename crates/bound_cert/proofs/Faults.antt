@@ -5,7 +5,7 @@ use Rattle.std.proofs.lemmas.Bool.{cases_lt, false_from_ne_true}
 use Rattle.std.proofs.lemmas.Str.Parse.{digits_value-take-le}
 use Rattle.span_base.specs.Number.{IsNumber, number_of}
 use Rattle.span_base.specs.Grammar.{CanGoOn, BreaksAt}
-use Rattle.span_base.proofs.Breaks.{breaks_inside, breaks_at_end}
+use Rattle.span_base.proofs.Breaks.{breaks_inside, breaks_at_end, earlier}
 use Rattle.bound_cert.specs.declared.leaves.Line.{Line}
 use Rattle.bound_cert.specs.Text.{line_text}
 use Rattle.bound_cert.specs.Reading.{IsSpellable, IsLineShape, BeginsAbove, IsTooLargeAt, IsFirstFault}
@@ -93,13 +93,6 @@ pub too_large_from : (text : List ℕ) (place : ℕ) → IsTooLargeAt text place
 too_large_from text place (inl h) = large_from text place var 65535 tt (sym h.0) (λ n above. above) h.1
 too_large_from text place (inr (inl h)) = large_from text place scale 4294967295 tt (sym h.0) (λ n above. above) h.1
 too_large_from text place (inr (inr h)) = large_from text place (row h.0.0.s h.0.0.pairs) 65535 h.0.1 h.0.2 (λ n above. above) h.1
-
--- what can go on longer can go on to an earlier place
-earlier : (Grammar : List ℕ → Type 0) (text : List ℕ) (a b : ℕ) → a + 1 ≤ b → CanGoOn Grammar (take b text) → CanGoOn Grammar (take (a + 1) text)
-earlier Grammar text a b low more =
-    let rest : List ℕ = drop (a + 1) (take b text) in
-    let parts : take (a + 1) text ++ rest ≡ take b text = ap (λ xs. xs ++ rest) (sym (take-take (a + 1) b text low)) ∙ take-append-drop (a + 1) (take b text) in
-    (rest ++ more.0, subst Grammar (ap (λ xs. xs ++ more.0) (sym parts) ∙ append_assoc (take (a + 1) text) rest more.0) more.1)
 
 can_go : (text : List ℕ) (place : ℕ) (f : Front) → Stands text place f → CanGoOn IsLineShape (take place text)
 can_go text place f here = subst (CanGoOn IsLineShape) here.text_is (goes_on f here.good)

@@ -10,7 +10,7 @@ use Rattle.bound_cert.specs.declared.leaves.Line.{Line}
 use Rattle.bound_cert.specs.declared.leaves.Line.TheVariants.{Close}
 use Rattle.bound_cert.specs.declared.read.Number.{Number}
 use Rattle.bound_cert.specs.declared.read.LineFault.{LineFault}
-use Rattle.bound_cert.specs.declared.read.LineFault.TheVariants.{Bad, Memory}
+use Rattle.bound_cert.specs.declared.read.LineFault.TheVariants.{Bad, NoMemory}
 use Rattle.bound_cert.specs.Text.{IsSpelled}
 use Rattle.bound_cert.specs.Reading.{IsSpellablePair, IsSpellable, IsFirstFault, IsLongestNumber, IsNumberAt, FindsNumber, PassesByte, ReadsLine, IsOutOfMemory}
 use Rattle.bound_cert.proofs.Numbers.{number_low, decimal-number_of}
@@ -181,20 +181,20 @@ refused_at text place at is first = record { reads = subst (IsFirstFault text) (
 
 pub number_refused : (text : List ℕ) (place : ℕ) (role : Role) (limit : ℕ) (fault : LineFault) → Stands text place (number role []) → IsLimit role limit → FindsNumber text place limit (Err fault) → IsRefused text fault
 number_refused text place role limit (Bad at) here is h = refused_at text place at h.0 (no_number_at text place role limit here is h.1)
-number_refused text place role limit (Memory error) here is h = absurd h
+number_refused text place role limit (NoMemory error) here is h = absurd h
 
 pub space_refused : (text : List ℕ) (place s : ℕ) (pairs : List Pair) (fault : LineFault) → IsBetween text place s pairs → place < length text → PassesByte text place 32 (Err fault) → IsRefused text fault
 space_refused text place s pairs (Bad at) here inside h = refused_at text place at h.0 (no_space text place s pairs here inside (h.1 inside))
-space_refused text place s pairs (Memory error) here inside h = absurd h
+space_refused text place s pairs (NoMemory error) here inside h = absurd h
 
 pub colon_refused : (text : List ℕ) (place s : ℕ) (pairs : List Pair) (r : ℕ) (fault : LineFault) → IsBehind text place (row s pairs) r → PassesByte text place 58 (Err fault) → IsRefused text fault
 colon_refused text place s pairs r (Bad at) here h = refused_at text place at h.0 (no_colon text place s pairs r here h.1)
-colon_refused text place s pairs r (Memory error) here h = absurd h
+colon_refused text place s pairs r (NoMemory error) here h = absurd h
 
 kind_refused : (text : List ℕ) (f : Front) (fault : LineFault) → Stands text 1 f → ((c : ℕ) → c ≢ 32 → step f c ≡ stuck) → is_end f ≡ false → PassesByte text 1 32 (Err fault) → IsRefused text fault
 kind_refused text f (Bad at) here only_space end h =
     refused_at text 1 at h.0 (stops text 1 f here (λ inside. only_space (slice_index text 1) (h.1 inside)) (λ last. end))
-kind_refused text f (Memory error) here only_space end h = absurd h
+kind_refused text f (NoMemory error) here only_space end h = absurd h
 
 -- behind the first byte of a line nothing but a space stands
 pub branch_refused : (text : List ℕ) (fault : LineFault) → 0 < length text → slice_index text 0 ≡ 98 → PassesByte text 1 32 (Err fault) → IsRefused text fault

@@ -1,4 +1,4 @@
-use Rattle.std.specs.Prelude.{ℕ, zero, suc, ◌*◌, ◌≤◌, ◌<◌, ℤ, pos, ◌+ℤ◌, ◌-ℤ◌, ◌*ℤ◌, Bool, true, false, if◌then◌else◌, ◌==◌, List, [], length, map, Option, Some, None, All, slice_index, slice_index_or}
+use Rattle.std.specs.Prelude.{ℕ, zero, suc, ◌*◌, ◌^◌, ◌≤◌, ◌<◌, ℤ, pos, ◌+ℤ◌, ◌-ℤ◌, ◌*ℤ◌, Bool, true, false, if◌then◌else◌, ◌==◌, List, [], length, map, Option, Some, None, All, slice_index, slice_index_or}
 use Rattle.std.specs.Int.{int_min}
 use Rattle.std.specs.List.Sorted.{IsStrictlyIncreasing}
 use Rattle.zero_one.specs.Sums.{int_sum_by}
@@ -8,7 +8,6 @@ use Rattle.zero_one.specs.Contents.{Contents}
 use Rattle.zero_one.specs.Rows.{fixed_bit}
 use Rattle.bound_cert.specs.declared.leaves.Pair.{Pair}
 use Rattle.bound_cert.specs.declared.leaves.Leaf.{Leaf}
-use Rattle.bound_cert.specs.declared.leaves.TheConstants.{MAX_SCALE, MAX_MULTIPLIER}
 
 -- the row at this place; past the end, one that asks for nothing
 abbrev pub row_at : List Row → ℕ → Row
@@ -50,7 +49,7 @@ leaf_bound program fixed leaf =
 
 -- the leaf is one for the program: a small `s`, and rows of the program in order, each with a multiplier in range
 pub record LeafFits (program : Contents) (leaf : Leaf) : Type 0 where
-  pub scale : leaf.s ≤ MAX_SCALE
-  pub multipliers : All (λ pair. (1 ≤ pair.mult) × (pair.mult ≤ MAX_MULTIPLIER)) leaf.pairs
+  pub scale : leaf.s ≤ 10 ^ 6
+  pub multipliers : All (λ pair. (1 ≤ pair.mult) × (pair.mult ≤ 10 ^ 30)) leaf.pairs
   pub rising : IsStrictlyIncreasing (map (λ pair. pair.row) leaf.pairs)
   pub existing : All (λ pair. pair.row < length program.rows) leaf.pairs

@@ -7,7 +7,7 @@ use Rattle.bound_cert.specs.declared.leaves.Leaf.{Leaf}
 use Rattle.bound_cert.specs.declared.leaves.Line.{Line}
 use Rattle.bound_cert.specs.declared.leaves.Line.TheVariants.{Branch, Close}
 use Rattle.bound_cert.specs.declared.read.LineFault.{LineFault}
-use Rattle.bound_cert.specs.declared.read.LineFault.TheVariants.{Bad, Memory}
+use Rattle.bound_cert.specs.declared.read.LineFault.TheVariants.{Bad, NoMemory}
 use Rattle.bound_cert.specs.declared.read.Number.{Number}
 use Rattle.bound_cert.specs.Text.{line_text, HasShortMultipliers}
 
@@ -54,13 +54,13 @@ pub record IsFirstFault (text : List ℕ) (place : ℕ) : Type 0 where
 abbrev pub ReadsLine : List ℕ → Result Line LineFault → Type 0
 ReadsLine text (Ok line) = (line_text line ≡ text) × HasShortMultipliers line
 ReadsLine text (Err (Bad place)) = IsFirstFault text place
-ReadsLine text (Err (Memory error)) = ⊤
+ReadsLine text (Err (NoMemory error)) = ⊤
 
 -- there was no memory
 abbrev pub IsOutOfMemory : {T : Type 0} → Result T LineFault → Type 0
 IsOutOfMemory (Ok value) = ⊥
 IsOutOfMemory (Err (Bad place)) = ⊥
-IsOutOfMemory (Err (Memory error)) = ⊤
+IsOutOfMemory (Err (NoMemory error)) = ⊤
 
 -- the longest front of the text that is a number has so many bytes: none where no front is
 pub record IsLongestNumber (text : List ℕ) (count : ℕ) : Type 0 where
@@ -82,10 +82,10 @@ abbrev pub FindsNumber : List ℕ → ℕ → ℕ → Result Number LineFault �
 FindsNumber text at limit (Ok found) = IsNumberAt text at limit found
 FindsNumber text at limit (Err (Bad place)) =
     (place ≡ at) × (¬ IsNumber (take 1 (drop at text)) ⊎ BeginsAbove limit (drop at text))
-FindsNumber text at limit (Err (Memory error)) = ⊥
+FindsNumber text at limit (Err (NoMemory error)) = ⊥
 
 -- what passing one given byte at this place gives: the place behind it, or that it doesn't stand there
 abbrev pub PassesByte : List ℕ → ℕ → ℕ → Result ℕ LineFault → Type 0
 PassesByte text at byte (Ok next) = (next ≡ at + 1) × (at < length text) × (slice_index text at ≡ byte)
 PassesByte text at byte (Err (Bad place)) = (place ≡ at) × (at < length text → slice_index text at ≢ byte)
-PassesByte text at byte (Err (Memory error)) = ⊥
+PassesByte text at byte (Err (NoMemory error)) = ⊥

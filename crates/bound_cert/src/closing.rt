@@ -1,4 +1,4 @@
-ghost use Rattle.std.specs.Prelude.{◌≡◌, ◌<◌, ◌≤◌, ◌*◌, ◌-◌, ◌↔◌, ◌<ℤ◌, pos, length, map, All, IsTrue};
+ghost use Rattle.std.specs.Prelude.{◌≡◌, ◌<◌, ◌≤◌, ◌*◌, ◌^◌, ◌-◌, ◌↔◌, ◌<ℤ◌, pos, length, map, All, IsTrue};
 ghost use Rattle.std.specs.List.Sorted.{IsStrictlyIncreasing};
 ghost use Rattle.bound_cert.specs.Leaves.{LeafFits};
 ghost use Rattle.bound_cert.specs.Closing.{Closes};
@@ -25,7 +25,7 @@ pub fn leaf_fits(program: &Program, leaf: &Leaf) -> bool
 
 /// Whether each multiplier is in range.
 fn are_multipliers(pairs: &[Pair]) -> bool
-    ensures { IsTrue result ↔ All (λ pair. (1 ≤ pair.mult) × (pair.mult ≤ MAX_MULTIPLIER)) pairs.now }
+    ensures { IsTrue result ↔ All (λ pair. (1 ≤ pair.mult) × (pair.mult ≤ 10 ^ 30)) pairs.now }
 {
     pairs
         .iter()

@@ -8,7 +8,9 @@ pub const MAX_MULTIPLIER: u128 = 1_000_000_000_000_000_000_000_000_000_000;
 /// A row of the program, named by its place, with the multiplier that it is taken by.
 #[derive(Clone, Copy, Debug, PartialEq, Eq)]
 pub struct Pair {
+    /// The row's place in the program.
     pub row: u16,
+    /// From 1 to 10^30 where the leaf fits.
     pub mult: u128,
 }
 
@@ -16,7 +18,9 @@ pub struct Pair {
 /// the cost of every assignment on the path from below.
 #[derive(Debug, Drop)]
 pub struct Leaf {
+    /// How often the costs are taken: at most 10^6 where the leaf fits, 0 where they don't count.
     pub s: u32,
+    /// Their rows rise strictly where the leaf fits.
     pub pairs: Listed<Pair>,
 }
 
@@ -25,6 +29,7 @@ pub struct Leaf {
 pub enum Line {
     /// Both bits of a variable are looked at: first 0, then 1.
     Branch { var: u16 },
+    /// The path ends.
     Close(Leaf),
 }
 

@@ -12,17 +12,17 @@ pub enum LineFault {
     /// early. Or a VAR or ROW begins there that is above 65,535, or an S above 4,294,967,295.
     Bad { at: usize },
     /// There was no memory for the pairs.
-    Memory(AllocError),
+    NoMemory(AllocError),
 }
 
 impl From<AllocError> for LineFault {
     ghost use Rattle.std.specs.Prelude.{◌≡◌};
-    ghost use Rattle.bound_cert.specs.declared.read.LineFault.TheVariants.{Memory};
+    ghost use Rattle.bound_cert.specs.declared.read.LineFault.TheVariants.{NoMemory};
 
-    ghost from_gives = { λ error fault. fault ≡ Memory error };
+    ghost from_gives = { λ error fault. fault ≡ NoMemory error };
 
     fn from(error: AllocError) -> LineFault {
-        LineFault::Memory(error)
+        LineFault::NoMemory(error)
     }
 }
 

@@ -77,15 +77,18 @@ none_past_whole : (program : Contents) (lines : List Line) → TakenFrom program
 none_past_whole program [] taken = refl
 none_past_whole program (line ∷ lines) taken = absurd taken.0
 
-pub whole_from_none : (program : Contents) (lines : List Line) → AreTaken program lines → path_after lines ≡ None → IsWhole program lines
-whole_from_none program lines taken ends =
-    let parsed = parse (length lines) program [] lines (omega arith) (taken_along program lines taken) ends in
+pub whole_along : (program : Contents) (lines : List Line) → TakenFrom program (Some []) lines → path_after lines ≡ None → IsWhole program lines
+whole_along program lines taken ends =
+    let parsed = parse (length lines) program [] lines (omega arith) taken ends in
     let nothing_left = none_past_whole program parsed.rest parsed.taken in
     record {
       tree = parsed.tree;
       well_formed = parsed.below;
       whole = parsed.split ∙ ap (λ ls. lines_of parsed.tree ++ ls) nothing_left ∙ append-nil (lines_of parsed.tree);
     }
+
+pub whole_from_none : (program : Contents) (lines : List Line) → AreTaken program lines → path_after lines ≡ None → IsWhole program lines
+whole_from_none program lines taken ends = whole_along program lines (taken_along program lines taken) ends
 
 -- ---- from a tree to the path past its lines
 

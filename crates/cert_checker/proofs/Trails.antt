@@ -10,17 +10,17 @@ use Rattle.cert_checker.specs.Paths.{turned_back, fixed_over, IsPath, HoldsPath}
 
 -- ---- how many variables are free
 
-nones : List (Option Bool) → ℕ
+pub nones : List (Option Bool) → ℕ
 nones [] = 0
 nones (None ∷ fixed) = suc (nones fixed)
 nones (Some bit ∷ fixed) = nones fixed
 
-nones-replicate : (n : ℕ) → nones (replicate n None) ≡ n
+pub nones-replicate : (n : ℕ) → nones (replicate n None) ≡ n
 unfolding nones
 nones-replicate zero = refl
 nones-replicate (suc n) = ap suc (nones-replicate n)
 
-nones-fix : (fixed : List (Option Bool)) (var : ℕ) (bit : Bool) → IsFree fixed var → suc (nones (fix fixed var bit)) ≡ nones fixed
+pub nones-fix : (fixed : List (Option Bool)) (var : ℕ) (bit : Bool) → IsFree fixed var → suc (nones (fix fixed var bit)) ≡ nones fixed
 unfolding nones
 nones-fix [] var bit free = absurd (cc)
 nones-fix (None ∷ fixed) zero bit free = refl

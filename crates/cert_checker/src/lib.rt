@@ -14,3 +14,4 @@ mod turns;
 pub use checker::Checker;
 pub use faults::{CertFault, Step};
 pub use laws::{checked_lines_bound, lines_have_one_answer};
+pub use turns::{Path, Turn};

@@ -1,4 +1,4 @@
-ghost use Rattle.std.specs.Prelude.{false, ◌≡◌, ◌<◌, ◌↔◌, ◌∷◌, [], if◌then◌else◌, IfOk, IsTrue};
+ghost use Rattle.std.specs.Prelude.{false, ◌≡◌, ◌<◌, ◌↔◌, ◌∷◌, [], if◌then◌else◌, length, IfOk, IsTrue};
 ghost use Rattle.bound_cert.specs.Trees.{IsFree};
 ghost use Rattle.cert_checker.specs.Paths.{fixed_over, turned_back};
 
@@ -6,16 +6,18 @@ use std::alloc::{AllocError, Global};
 use std::marker::Model;
 use zero_one::Fixed;
 
-/// A branch on the way to a node: its variable, and the bit that the path takes there.
+/// A branch on the way to a node.
 #[derive(Clone, Copy, Debug, PartialEq, Eq)]
 pub struct Turn {
+    /// The variable of the branch.
     pub var: u16,
+    /// The bit that the path takes there.
     pub bit: bool,
 }
 
 /// The path to a node, with room for a turn on each variable.
 #[derive(Drop)]
-pub(crate) struct Path {
+pub struct Path {
     // The turns stand from place `free` on, the deepest one first.
     turns: Vec<Turn>,
     // How many variables the path leaves free.
@@ -37,8 +39,8 @@ impl Model for Path {
 }
 
 impl Path {
-    /// The empty path.
-    pub(crate) fn make(alloc: Global, variables: usize) -> Result<Path, AllocError>
+    /// The empty path among so many variables. Past this a path takes no memory.
+    pub fn make(alloc: Global, variables: usize) -> Result<Path, AllocError>
         ensures { IfOk result (λ path. path ≡ record { variables = variables; turns = [] }) }
     {
         let turn = Turn { var: 0, bit: false };
@@ -50,22 +52,29 @@ impl Path {
     }
 
     /// The variables that the path fixes.
-    pub(crate) fn fixed(&self) -> &Fixed
+    pub fn fixed(&self) -> &Fixed
         ensures { result.now ≡ fixed_over self.now.variables self.now.turns }
     {
         &self.fixed
     }
 
     /// Whether the path leaves the variable free.
-    pub(crate) fn is_free(&self, var: usize) -> bool
+    pub fn is_free(&self, var: usize) -> bool
         requires { var < self.now.variables }
         ensures { IsTrue result ↔ IsFree (fixed_over self.now.variables self.now.turns) var }
     {
         self.fixed.as_slice()[var].is_none()
     }
 
+    /// How many turns there are.
+    pub fn depth(&self) -> usize
+        ensures { result ≡ length self.now.turns }
+    {
+        self.turns.len() - self.free
+    }
+
     /// Goes down to the bit 0 of a variable.
-    pub(crate) fn go_down(&mut self, var: u16)
+    pub fn go_down(&mut self, var: u16)
         requires { IsFree (fixed_over self.old.variables self.old.turns) var }
         ensures { self.new ≡ record self.old { turns = record { var = var; bit = false } ∷ self.old.turns } }
     {
@@ -76,7 +85,7 @@ impl Path {
 
     /// Goes back to the deepest turn with bit 0 and takes its bit 1 there. Says whether there was
     /// such a turn.
-    pub(crate) fn turn_back(&mut self) -> bool
+    pub fn turn_back(&mut self) -> bool
         ensures variables { self.new.variables ≡ self.old.variables }
         ensures turns { turned_back self.old.turns ≡ (if result then Some self.new.turns else None) }
     {

@@ -104,7 +104,7 @@ filled_sum all (e ∷ es) fixed known right =
     let bit = rw (zero-add e.var, right.0) at (bit_of-fill fixed all 0 e.var here) in
     rw (bit, part_is (fixed_bit fixed e.var) e.coef, filled_sum all es fixed (All-tail (λ (e : Entry). e.var < length fixed) e es known) right.1) refl
 
-fixed_inside : (fixed : List (Option Bool)) (var : ℕ) (bit : Bool) → fixed_bit fixed var ≡ Some bit → var < length fixed
+pub fixed_inside : (fixed : List (Option Bool)) (var : ℕ) (bit : Bool) → fixed_bit fixed var ≡ Some bit → var < length fixed
 fixed_inside [] var bit e = absurd (cc)
 fixed_inside (b ∷ fixed) zero bit e = omega arith
 fixed_inside (b ∷ fixed) (suc var) bit e = omega (arith, fixed_inside fixed var bit e)

@@ -1,10 +1,9 @@
-use Rattle.std.specs.Prelude.{◌≡◌, ℕ, ◌<◌, ◌≤◌, ◌⊎◌, List, length, take, All, slice_get, Some}
+use Rattle.std.specs.Prelude.{◌≡◌, ℕ, ◌^◌, ◌<◌, ◌≤◌, ◌⊎◌, List, length, take, All, slice_get, Some}
 use Rattle.span_base.specs.declared.words.What.{What}
 use Rattle.span_base.specs.declared.words.What.TheVariants.{Variables, Rows, Weight}
 use Rattle.zero_one.specs.declared.rows.Row.{Row}
 use Rattle.zero_one.specs.declared.programs.ProgramFault.{ProgramFault}
 use Rattle.zero_one.specs.declared.programs.ProgramFault.TheVariants.{NoSuchVar, Unsorted, Limit}
-use Rattle.zero_one.specs.declared.programs.TheConstants.{MAX_VARIABLES, MAX_ROWS, MAX_WEIGHT}
 use Rattle.zero_one.specs.Rows.{KnowsItsVars, HasRisingVars, weight_of}
 
 -- the row at this place is the first that isn't as asked
@@ -23,9 +22,9 @@ IsUnsortedAt costs rows at = All (KnowsItsVars (length costs)) rows × IsFirstBr
 -- there are too many variables, else too many rows, else the rows weigh too much; the number says how many or how much
 abbrev pub IsPastLimit : List ℕ → List Row → What → ℕ → Type 0
 IsPastLimit costs rows what number =
-    ((what ≡ Variables) × (number ≡ length costs) × (MAX_VARIABLES < number))
-    ⊎ (((what ≡ Rows) × (number ≡ length rows) × (length costs ≤ MAX_VARIABLES) × (MAX_ROWS < number))
-    ⊎ ((what ≡ Weight) × (number ≡ weight_of rows) × (length costs ≤ MAX_VARIABLES) × (length rows ≤ MAX_ROWS) × (MAX_WEIGHT < number)))
+    ((what ≡ Variables) × (number ≡ length costs) × (4096 < number))
+    ⊎ (((what ≡ Rows) × (number ≡ length rows) × (length costs ≤ 4096) × (16384 < number))
+    ⊎ ((what ≡ Weight) × (number ≡ weight_of rows) × (length costs ≤ 4096) × (length rows ≤ 16384) × (10 ^ 7 < number)))
 
 -- the costs and rows have this fault, and none of those that are looked for before it
 abbrev pub HasFault : List ℕ → List Row → ProgramFault → Type 0

@@ -1,5 +1,4 @@
 use Rattle.std.specs.Prelude.{◌≡◌, ℕ, ◌+◌, ◌^◌, ◌<◌, ◌≤◌, Bool, true, false, List, [], ◌∷◌, length, All}
-use Rattle.zero_one.specs.declared.programs.TheConstants.{MAX_VARIABLES, MAX_ROWS, MAX_WEIGHT}
 use Rattle.zero_one.specs.Contents.{Contents}
 use Rattle.zero_one.specs.Rows.{Meets, KnowsItsVars, HasRisingVars, weight_of}
 
@@ -20,6 +19,6 @@ pub record IsWithinLimits (program : Contents) : Type 0 where
   pub costs : All (λ cost. cost < 10 ^ 24) program.costs
   pub known : All (KnowsItsVars (length program.costs)) program.rows
   pub rising : All HasRisingVars program.rows
-  pub variables : length program.costs ≤ MAX_VARIABLES
-  pub row_count : length program.rows ≤ MAX_ROWS
-  pub weight : weight_of program.rows ≤ MAX_WEIGHT
+  pub variables : length program.costs ≤ 4096
+  pub row_count : length program.rows ≤ 16384
+  pub weight : weight_of program.rows ≤ 10 ^ 7

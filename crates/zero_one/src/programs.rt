@@ -83,6 +83,7 @@ impl Program {
         Ok(Program { costs, rows })
     }
 
+    /// The cost of each variable, below 10^24; a variable is named by its place.
     pub fn costs(&self) -> &[u128]
         ensures costs { result.now ≡ self.now.costs }
         ensures within { IsWithinLimits self.now }
@@ -90,6 +91,7 @@ impl Program {
         self.costs.as_slice()
     }
 
+    /// The rows, each named by its place.
     pub fn rows(&self) -> &[Row]
         ensures rows { result.now ≡ self.now.rows }
         ensures within { IsWithinLimits self.now }
@@ -165,7 +167,7 @@ fn first_unsorted(rows: &[Row]) -> Option<usize>
 }
 
 fn weight_of(rows: &[Row]) -> u128
-    requires { length rows.now ≤ MAX_ROWS }
+    requires { length rows.now ≤ 16384 }
     ensures { result ≡ weight_of rows.now }
 {
     let mut weight = 0;

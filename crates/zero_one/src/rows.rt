@@ -6,7 +6,9 @@ use span_base::Listed;
 /// One term of a row: the coefficient of a variable.
 #[derive(Clone, Copy, Debug, PartialEq, Eq)]
 pub struct Entry {
+    /// The variable's place among the costs of the program.
     pub var: u16,
+    /// What the variable adds to the row's sum where it is 1.
     pub coef: i32,
 }
 
@@ -14,14 +16,15 @@ pub struct Entry {
 /// bound.
 #[derive(Debug, Drop)]
 pub struct Row {
+    /// In a program their variables rise strictly.
     pub entries: Listed<Entry>,
+    /// The least sum that meets the row.
     pub bound: i32,
 }
 
 impl Row {
     ghost use Rattle.std.specs.Prelude.{◌≡◌, ◌^◌, ◌<◌, ◌≤◌, ◌↔◌, length, IsTrue};
     ghost use Rattle.zero_one.specs.Rows.{KnowsItsVars, HasRisingVars, row_weight, row_sum, greatest_sum};
-    ghost use Rattle.zero_one.specs.declared.programs.TheConstants.{MAX_WEIGHT};
 
     /// Whether the row speaks of the first `count` variables alone.
     pub(crate) fn knows_its_vars(&self, count: usize) -> bool
@@ -59,7 +62,7 @@ impl Row {
 
     /// The sum of the row under an assignment.
     pub(crate) fn sum(&self, x: &[bool]) -> i64
-        requires light { row_weight self.now ≤ MAX_WEIGHT }
+        requires light { row_weight self.now ≤ 10 ^ 7 }
         requires known { KnowsItsVars (length x.now) self.now }
         ensures { result ≡ row_sum self.now.entries x.now }
     {
@@ -74,7 +77,7 @@ impl Row {
 
     /// The greatest sum of the row that the fixed variables leave.
     pub(crate) fn greatest_sum(&self, fixed: &[Option<bool>]) -> i64
-        requires light { row_weight self.now ≤ MAX_WEIGHT }
+        requires light { row_weight self.now ≤ 10 ^ 7 }
         requires known { KnowsItsVars (length fixed.now) self.now }
         ensures { result ≡ greatest_sum self.now.entries fixed.now }
     {
