@@ -1,12 +1,13 @@
 -- What the rules say of a direct policy, part by part.
-use Rattle.std.proofs.Common.{◌≡◌, ℕ, zero, suc, ◌+◌, ◌-◌, ◌<◌, ◌≤◌, inl, inr, Bool, true, false, cond, ◌&&◌, ◌==◌, List, [], ◌∷◌, ◌++◌, length, Option, Some, None, refl, sym, ap, ◌∙◌, arith}
+use Rattle.std.proofs.Common.{◌≡◌, ℕ, zero, suc, ◌+◌, ◌-◌, ◌<◌, ◌≤◌, inl, inr, Bool, true, false, cond, ◌&&◌, ◌==◌, List, [], ◌∷◌, ◌++◌, length, Option, Some, None, refl, sym, ap, subst, ◌∙◌, arith}
 use Rattle.std.specs.Prelude.{nat_lt, nat_le}
 use Rattle.std.specs.List.{count_by, filter, range_with_len, list_all, list_any, AllZip, AllByRecursion}
 use Rattle.std.specs.Cmp.Lexicographic.{same_text}
-use Rattle.std.proofs.lemmas.Bool.{eq-eqb, eqb-true, lt-ltb, ltb-true, le-leb, and_parts, and_from, false_from_ne_true, cases_lt}
+use Rattle.std.proofs.lemmas.Bool.{eq-eqb, eqb-true, lt-ltb, ltb-true, le-leb, leb-true, and_parts, and_from, false_from_ne_true, cases_lt}
 use Rattle.std.proofs.lemmas.List.{append-nil}
 use Rattle.std.proofs.lemmas.List.Elements.{filter-append}
 use Rattle.span_base.specs.declared.dc_set.DcSet.{DcSet}
+use Rattle.span_base.specs.PolicyParts.{faults_of}
 use Rattle.span_base.specs.DcSet.{has, centres_of, centres_below}
 use Rattle.span_base.specs.declared.policy.Policy.{Policy}
 use Rattle.span_base.specs.declared.policy.Policy.TheVariants.{Direct}
@@ -17,9 +18,10 @@ use Rattle.workload.specs.declared.rules.SetRule.{SetRule}
 use Rattle.workload.specs.declared.rules.Mode.TheVariants as mode
 use Rattle.slo_rules.specs.declared.rules.Rule.{Rule}
 use Rattle.slo_rules.specs.declared.rules.Rule.TheVariants as rule
-use Rattle.slo_rules.specs.Rules.{or_else, unless, first_breach, is_read_near, is_write_near, count_in, has_mode, has_shape, lies_below, same_list, centres_asking, primary_members, primaries_below, breach_of_primary, breach_of_reading, breach_of_writing, breach_of_mode, breach_of_providers, providers_of, first_broken_rule, IsAllowed, code_of, mode_of, failures_of}
-use Rattle.placement_relay.specs.Direct.{centres}
-use Rattle.placement_relay.proofs.Sums.{filter-below, range-append}
+use Rattle.slo_rules.specs.Rules.{or_else, unless, first_breach, is_read_near, is_write_near, count_in, has_mode, has_shape, lies_below, same_list, centres_asking, primary_members, primaries_below, breach_of_primary, breach_of_reading, breach_of_writing, breach_of_mode, breach_of_providers, providers_of, first_broken_rule, IsAllowed, code_of, mode_of}
+use Rattle.placement_rows.proofs.ProviderCounts.{same_list-refl}
+use Rattle.placement_rows.specs.Centres.{centres}
+use Rattle.placement_rows.proofs.Sums.{filter-below, range-append}
 
 -- a primary is the member's, a centre, a replica and read-near
 pub record Serves (w : Lists) (r : SetRule) (replicas : DcSet) (m : Demand) (near : Near) : Type 0 where
@@ -35,6 +37,8 @@ pub record IsDirect (w : Lists) (set : ℕ) (f : ℕ) (replicas : DcSet) (primar
   pub served : AllZip (Serves w (rule_of w set) replicas) (members_of w set) primary
   pub reading : AllByRecursion (λ m. (rule_of w set).f < count_by (is_read_near w (rule_of w set) m.dc.0) (centres_of replicas)) (members_of w set)
   pub writing : AllByRecursion (λ m. (rule_of w set).f < count_by (is_write_near w (rule_of w set) m.dc.0) (centres_of replicas)) (members_of w set)
+  pub lies : lies_below (centre_count w) replicas ≡ true
+  pub apart : (rule_of w set).providers ≤ length (providers_of w (centres_of replicas))
 
 pub or_else-none : (a b : Option Rule) → or_else a b ≡ None → (a ≡ None) × (b ≡ None)
 or_else-none None b e = (refl, e)
@@ -102,13 +106,9 @@ lies_below-all : (n : ℕ) (s : DcSet) → lies_below n s ≡ true → (d : ℕ)
 unfolding centres_of centres_below
 lies_below-all n s all d is = ltb-true d n (all_pass (λ dc. nat_lt dc n) (has s) 0 16 all d (omega arith) (grind arith) is)
 
-lies_below-from : (n : ℕ) (s : DcSet) → ((d : ℕ) → has s d ≡ true → d < n) → lies_below n s ≡ true
+pub lies_below-from : (n : ℕ) (s : DcSet) → ((d : ℕ) → has s d ≡ true → d < n) → lies_below n s ≡ true
 unfolding centres_of centres_below
 lies_below-from n s low = all_pass_from (λ dc. nat_lt dc n) (has s) 0 16 (λ d from to is. lt-ltb d n (low d is))
-
-same_list-refl : (xs : List ℕ) → same_list xs xs ≡ true
-same_list-refl [] = refl
-same_list-refl (x ∷ xs) = and_from (x == x) (same_list xs xs) (eq-eqb x x refl) (same_list-refl xs)
 
 served_by : (w : Lists) (r : SetRule) (replicas : DcSet) (members : List Demand) (primary : List Near)
     → primaries_below (centre_count w) primary ≡ true → primary_members primary ≡ centres_asking members → first_breach (breach_of_primary w r replicas) primary ≡ None → AllZip (Serves w r replicas) members primary
@@ -171,6 +171,8 @@ from_allowed w set f replicas primary few allowed =
       served = served_by w r replicas members primary t.1 (same_text (primary_members primary) (centres_asking members) (sym s.1)) e.0;
       reading = breaches (breach_of_reading w r replicas) (λ m. r.f < count_by (is_read_near w r m.dc.0) (centres_of replicas)) (λ m none. ltb-true r.f (count_in (is_read_near w r m.dc.0) replicas) (unless-none (nat_lt r.f (count_in (is_read_near w r m.dc.0) replicas)) (rule.ReadSlo m.dc) none)) members g.0;
       writing = breaches (breach_of_writing w r replicas (λ member dc. true)) (λ m. r.f < count_by (is_write_near w r m.dc.0) (centres_of replicas)) (λ m none. ltb-true r.f (count_in (is_write_near w r m.dc.0) replicas) (unless-none (nat_lt r.f (count_in (is_write_near w r m.dc.0) replicas)) (rule.WriteSlo m.dc) none)) members g.1;
+      lies = t.0;
+      apart = leb-true r.providers (length (providers_of w (centres_of replicas))) (unless-none (nat_le r.providers (length (providers_of w (centres_of replicas)))) rule.Providers c.1);
     }
 
 cons_name : (b : Bool) (name : List ℕ) (names : List (List ℕ)) → (b ≡ true → 1 ≤ length names) → 1 ≤ length (cond b names (name ∷ names))
@@ -181,14 +183,25 @@ any_some : (name : List ℕ) (names : List (List ℕ)) → list_any (same_list n
 any_some name [] h = cc
 any_some name (x ∷ names) h = omega arith
 
-some_provider : (w : Lists) (ds : List ℕ) → 1 ≤ length ds → 1 ≤ length (providers_of w ds)
+pub some_provider : (w : Lists) (ds : List ℕ) → 1 ≤ length ds → 1 ≤ length (providers_of w ds)
 some_provider w [] h = absurd (omega arith)
 some_provider w (d ∷ ds) h = cons_name (list_any (same_list (centre_of w d).provider) (providers_of w ds)) (centre_of w d).provider (providers_of w ds) (any_some (centre_of w d).provider (providers_of w ds))
 
-pub to_allowed : (w : Lists) (set : ℕ) (f : ℕ) (replicas : DcSet) (primary : List Near) → (rule_of w set).mode ≡ mode.Direct → (rule_of w set).providers ≡ 1
-    → ((d : ℕ) → has replicas d ≡ true → d < centre_count w) → 1 ≤ length (centres_of replicas) → IsDirect w set f replicas primary → IsAllowed w set (Direct f replicas primary)
+filter-low : (q : ℕ → Bool) (s k n : ℕ) → s + k ≤ n → AllByRecursion (λ d. d < n) (filter q (range_with_len s k))
+filter-low q s zero n low = tt
+filter-low q s (suc k) n low = elim (q s) as (λ b. AllByRecursion (λ d. d < n) (cond b (s ∷ filter q (range_with_len (s + 1) k)) (filter q (range_with_len (s + 1) k)))) [
+  | true ↦ (omega arith, filter-low q (s + 1) k n (omega arith))
+  | false ↦ filter-low q (s + 1) k n (omega arith)
+]
+
+-- the replicas are centres of the world
+pub below_count : (w : Lists) (replicas : DcSet) → centres_of replicas ≡ filter (has replicas) (centres w) → AllByRecursion (λ d. d < centre_count w) (centres_of replicas)
+below_count w replicas within = subst (AllByRecursion (λ d. d < centre_count w)) (sym within) (filter-low (has replicas) 0 (centre_count w) (centre_count w) (omega arith))
+
+pub to_allowed : (w : Lists) (set : ℕ) (f : ℕ) (replicas : DcSet) (primary : List Near) → (rule_of w set).mode ≡ mode.Direct
+    → ((d : ℕ) → has replicas d ≡ true → d < centre_count w) → IsDirect w set f replicas primary → IsAllowed w set (Direct f replicas primary)
 unfolding first_broken_rule
-to_allowed w set f replicas primary is one low some direct =
+to_allowed w set f replicas primary is low direct =
     let r = rule_of w set in
     let n = centre_count w in
     let members = members_of w set in
@@ -208,12 +221,12 @@ to_allowed w set f replicas primary is one low some direct =
     (no_breach (breach_of_reading w r replicas) (λ m. r.f < count_by (is_read_near w r m.dc.0) (centres_of replicas)) (λ m many. unless-true (nat_lt r.f (count_in (is_read_near w r m.dc.0) replicas)) (rule.ReadSlo m.dc) (lt-ltb r.f (count_in (is_read_near w r m.dc.0) replicas) many)) members direct.reading)
     (no_breach (breach_of_writing w r replicas (λ member dc. true)) (λ m. r.f < count_by (is_write_near w r m.dc.0) (centres_of replicas)) (λ m many. unless-true (nat_lt r.f (count_in (is_write_near w r m.dc.0) replicas)) (rule.WriteSlo m.dc) (lt-ltb r.f (count_in (is_write_near w r m.dc.0) replicas) many)) members direct.writing)))
     (unless-true (nat_le r.providers (length (providers_of w (centres_of replicas)))) rule.Providers
-    (le-leb r.providers (length (providers_of w (centres_of replicas))) (let h = some_provider w (centres_of replicas) some in omega arith)))))
+    (le-leb r.providers (length (providers_of w (centres_of replicas))) direct.apart))))
 
 -- a policy of a direct set is direct
 pub not_direct : (w : Lists) (set : ℕ) (q : Policy) → IsAllowed w set q → code_of (mode_of q) ≡ code_of (rule_of w set).mode
 unfolding first_broken_rule
 not_direct w set q allowed =
     let a = or_else-none (unless (has_mode (rule_of w set) q) rule.Mode) (or_else (unless (has_shape w set q) rule.Shape) (or_else (breach_of_mode w set q) (breach_of_providers w set q))) allowed in
-    let m = and_parts (code_of (mode_of q) == code_of (rule_of w set).mode) (failures_of q == (rule_of w set).f) (unless-none (has_mode (rule_of w set) q) rule.Mode a.0) in
+    let m = and_parts (code_of (mode_of q) == code_of (rule_of w set).mode) (faults_of q == (rule_of w set).f) (unless-none (has_mode (rule_of w set) q) rule.Mode a.0) in
     eqb-true (code_of (mode_of q)) (code_of (rule_of w set).mode) m.0

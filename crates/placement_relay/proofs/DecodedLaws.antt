@@ -1,30 +1,39 @@
 -- Every choice that meets the program is an allowed policy, at no more than the choice's value.
-use Rattle.std.proofs.Common.{◌≡◌, ℕ, zero, suc, ◌+◌, ◌<◌, ◌≤◌, inl, inr, Bool, true, false, cond, List, [], ◌∷◌, length, get_or, map, refl, sym, ap, subst, ◌∙◌, arith}
-use Rattle.std.specs.List.{count_by, filter, find, fold, range_with_len, AllByRecursion}
+use Rattle.std.proofs.Common.{◌≡◌, ℕ, zero, suc, ◌+◌, ◌<◌, ◌≤◌, inl, inr, Bool, true, false, cond, List, [], ◌∷◌, ◌++◌, length, get_or, map, refl, sym, ap, subst, ◌∙◌, arith}
+use Rattle.std.specs.List.{count_by, filter, find, fold, list_any, range_with_len, All, AllByRecursion}
 use Rattle.std.proofs.lemmas.Bool.{cases_lt, cases_eq, cases_Bool}
 use Rattle.std.proofs.lemmas.List.{get_or-map}
 use Rattle.std.proofs.lemmas.List.FromFn.{get_or-enumerate_from, length-enumerate_from}
 use Rattle.std.proofs.lemmas.List.{length-map}
 use Rattle.std.proofs.lemmas.List.Sums.{count_by-le-length}
+use Rattle.std.proofs.lemmas.List.Elements.{All-from_recursion, recursion_from_All}
 use Rattle.span_base.specs.declared.dc_set.DcSet.{DcSet}
 use Rattle.span_base.specs.DcSet.{has, centres_of, insert, no_centre as no_dc}
 use Rattle.span_base.proofs.Sets.{has-insert_same, has-insert_other, has-below, has-no_centre}
-use Rattle.span_base.specs.declared.policy.Near.{Near}
+use Rattle.span_base.specs.declared.policy.Policy.{Policy}
+use Rattle.span_base.specs.declared.policy.Policy.TheVariants.{Direct}
 use Rattle.workload.specs.World.{Lists, centre_count, rule_of, members_of}
-use Rattle.slo_rules.specs.Rules.{IsAllowed, is_read_near, is_write_near}
-use Rattle.slo_rules.specs.Cost.{policy_cost}
+use Rattle.slo_rules.specs.Rules.{IsAllowed, is_read_near, is_write_near, providers_of}
+use Rattle.slo_rules.specs.Cost.{policy_cost, gets_cost}
 use Rattle.workload.specs.declared.rules.Demand.{Demand}
+use Rattle.workload.specs.declared.rules.Mode.{Mode}
 use Rattle.workload.specs.declared.rules.Mode.TheVariants as mode
-use Rattle.zero_one.specs.Rows.{bit_of}
+use Rattle.zero_one.specs.Rows.{Meets, bit_of}
 use Rattle.zero_one.specs.Program.{IsFeasible, value_of}
-use Rattle.placement_relay.specs.Direct.{centres, numbered_members, h, replica_cost, gets_cost, direct_costs, direct_program, read_near}
+use Rattle.placement_rows.specs.Centres.{centres, numbered_members, read_near}
+use Rattle.placement_relay.specs.Reading.{h}
+use Rattle.placement_rows.specs.Providers.{asks_providers, provider_rows}
+use Rattle.placement_relay.specs.Direct.{replica_cost, direct_costs, direct_rows}
+use Rattle.placement_relay.specs.Programs.{costs_by, rows_by, set_costs, set_program, keeping}
 use Rattle.placement_relay.specs.Laws.{IsDecoded}
-use Rattle.placement_relay.specs.Placed.{decoded, chosen_replicas, chosen_primary, or_first}
-use Rattle.placement_relay.proofs.Sums.{Found, sum_by-range_agree, le-sum_by-range, numbered-zip-le, zip_numbered, find-some}
-use Rattle.placement_relay.proofs.Allowed.{IsDirect, Serves, to_allowed, centres_of-below}
-use Rattle.placement_relay.proofs.MetRows.{Chooses, nobody, rows-back, each-weaker}
-use Rattle.placement_relay.proofs.CostParts.{chosen_gets, cost-parts, value-parts, count-near}
-use Rattle.placement_relay.proofs.PlacedLaws.{nowhere}
+use Rattle.placement_relay.specs.Placed.{decoded, decoded_by, chosen_replicas, chosen_primary, chosen_primaries, or_first}
+use Rattle.placement_rows.proofs.Sums.{Found, sum_by-range_agree, le-sum_by-range, numbered-zip-le, zip_numbered, find-some}
+use Rattle.placement_relay.proofs.Allowed.{IsDirect, Serves, to_allowed, centres_of-below, below_count, some_provider, lies_below-from}
+use Rattle.placement_rows.proofs.Each.{each-weaker, each-split}
+use Rattle.placement_rows.proofs.ProviderRows.{Keeps, centres-keep, provider-rows-back}
+use Rattle.placement_relay.proofs.MetRows.{Chooses, nobody, rows-back}
+use Rattle.placement_relay.proofs.CostParts.{chosen_gets, cost-parts, value-parts, value-set, count-near}
+use Rattle.placement_relay.proofs.ReadingBits.{nowhere}
 
 -- what a set has it still has when more is added
 insert-keeps : (s : DcSet) (e d : ℕ) → has s d ≡ true → has (insert s e) d ≡ true
@@ -106,11 +115,27 @@ module _ (w : Lists) (set : ℕ) (x : List Bool) (few : centre_count w ≤ 16) (
   same_bits : (d : ℕ) → d < centre_count w → bit_of x d ≡ has (chosen_replicas w x) d
   same_bits d low = sym (has-chosen w x few d low)
 
-  primaries : List Near
-  primaries = map (chosen_primary w set x) (numbered_members w set)
+  enough_read : AllByRecursion (λ m. (rule_of w set).f < count_by (is_read_near w (rule_of w set) m.dc.0) (centres_of (chosen_replicas w x))) (members_of w set)
+  enough_read = each-weaker _ _ (λ m many. let e = count-near w (chosen_replicas w x) x (is_read_near w (rule_of w set) m.dc.0) within same_bits in omega (arith, many, e)) (members_of w set) c.reading
 
-  direct : IsDirect w set (rule_of w set).f (chosen_replicas w x) (map (chosen_primary w set x) (numbered_members w set))
-  direct =
+  some_replica : 1 ≤ length (members_of w set) → 1 ≤ length (centres_of (chosen_replicas w x))
+  some_replica some = first (members_of w set) some enough_read
+    where
+      first : (members : List Demand) → 1 ≤ length members → AllByRecursion (λ m. (rule_of w set).f < count_by (is_read_near w (rule_of w set) m.dc.0) (centres_of (chosen_replicas w x))) members → 1 ≤ length (centres_of (chosen_replicas w x))
+      first [] some all = absurd (omega arith)
+      first (m ∷ members) some all = omega (arith, all.0, count_by-le-length (is_read_near w (rule_of w set) m.dc.0) (centres_of (chosen_replicas w x)))
+
+  -- the variables that keep replicas keep just the chosen ones
+  keeps : Keeps x (keeping w) (centres_of (chosen_replicas w x))
+  keeps p = centres-keep w x (has (chosen_replicas w x)) same_bits p ∙ ap (list_any p) (sym within)
+
+  apart : 1 ≤ length (members_of w set) → AllByRecursion (Meets x) (provider_rows w set (length (direct_costs w set)) (keeping w)) → (rule_of w set).providers ≤ length (providers_of w (centres_of (chosen_replicas w x)))
+  apart some met =
+      provider-rows-back w set x (length (direct_costs w set)) (keeping w) (centres_of (chosen_replicas w x)) keeps (below_count w (chosen_replicas w x) within)
+      (some_provider w (centres_of (chosen_replicas w x)) (some_replica some)) (asks_providers w set) refl met
+
+  direct : (rule_of w set).providers ≤ length (providers_of w (centres_of (chosen_replicas w x))) → IsDirect w set (rule_of w set).f (chosen_replicas w x) (map (chosen_primary w set x) (numbered_members w set))
+  direct many =
       let members = members_of w set in
       let r = rule_of w set in
       record {
@@ -118,20 +143,14 @@ module _ (w : Lists) (set : ℕ) (x : List Bool) (few : centre_count w ≤ 16) (
         within = within;
         served = zip_numbered (Serves w r (chosen_replicas w x)) (chosen_primary w set x) nobody 0 members
             (λ k in'. subst (λ a. Serves w r (chosen_replicas w x) (get_or members k nobody) (chosen_primary w set x (a, get_or members k nobody))) (let e : k ≡ 0 + k = omega arith in e) (chosen_serves k in'));
-        reading = each-weaker _ _ (λ m many. let e = count-near w (chosen_replicas w x) x (is_read_near w r m.dc.0) within same_bits in omega (arith, many, e)) members c.reading;
+        reading = enough_read;
         writing = each-weaker _ _ (λ m many. let e = count-near w (chosen_replicas w x) x (is_write_near w r m.dc.0) within same_bits in omega (arith, many, e)) members c.writing;
+        lies = lies_below-from (centre_count w) (chosen_replicas w x) (chosen-below w x);
+        apart = many;
       }
 
-  some_replica : 1 ≤ length (members_of w set) → 1 ≤ length (centres_of (chosen_replicas w x))
-  some_replica some = first (members_of w set) some direct.reading
-    where
-      first : (members : List Demand) → 1 ≤ length members → AllByRecursion (λ m. (rule_of w set).f < count_by (is_read_near w (rule_of w set) m.dc.0) (centres_of (chosen_replicas w x))) members → 1 ≤ length (centres_of (chosen_replicas w x))
-      first [] some all = absurd (omega arith)
-      first (m ∷ members) some all = omega (arith, all.0, count_by-le-length (is_read_near w (rule_of w set) m.dc.0) (centres_of (chosen_replicas w x)))
-
-  allowed : (rule_of w set).mode ≡ mode.Direct → (rule_of w set).providers ≡ 1 → 1 ≤ length (members_of w set) → IsAllowed w set (decoded w set x)
-  unfolding decoded
-  allowed is one some = to_allowed w set (rule_of w set).f (chosen_replicas w x) (map (chosen_primary w set x) (numbered_members w set)) is one (chosen-below w x) (some_replica some) direct
+  allowed : (rule_of w set).mode ≡ mode.Direct → (rule_of w set).providers ≤ length (providers_of w (centres_of (chosen_replicas w x))) → IsAllowed w set (Direct (rule_of w set).f (chosen_replicas w x) (chosen_primaries w set x))
+  allowed is many = to_allowed w set (rule_of w set).f (chosen_replicas w x) (map (chosen_primary w set x) (numbered_members w set)) is (chosen-below w x) (direct many)
 
   primary_read : (k : ℕ) → k < length (members_of w set) → get_or (map (chosen_primary w set x) (numbered_members w set)) k nowhere ≡ chosen_primary w set x (k, get_or (members_of w set) k nobody)
   primary_read k in' =
@@ -139,28 +158,39 @@ module _ (w : Lists) (set : ℕ) (x : List Bool) (few : centre_count w ≤ 16) (
       ∙ ap (chosen_primary w set x) (get_or-enumerate_from 0 (members_of w set) k (0, nobody) in')
       ∙ ap (λ a. chosen_primary w set x (a, get_or (members_of w set) k nobody)) (let e : 0 + k ≡ k = omega arith in e)
 
-  gets_within : (k : ℕ) → k < length (members_of w set) → gets_cost w set (get_or (members_of w set) k nobody) (get_or (map (chosen_primary w set x) (numbered_members w set)) k nowhere).at.0 ≤ chosen_gets w set x k (get_or (members_of w set) k nobody)
+  gets_within : (k : ℕ) → k < length (members_of w set) → gets_cost w (rule_of w set) (get_or (members_of w set) k nobody) (get_or (map (chosen_primary w set x) (numbered_members w set)) k nowhere).at.0 ≤ chosen_gets w set x k (get_or (members_of w set) k nobody)
   gets_within k in' =
       let m = get_or (members_of w set) k nobody in
       let found = primary_at k in' in
       let at : (get_or (map (chosen_primary w set x) (numbered_members w set)) k nowhere).at.0 ≡ found.at = ap (λ near. near.at.0) (primary_read k in') ∙ primary_is k in' in
-      let paid : cond (bit_of x (h w k found.at)) (gets_cost w set m found.at) 0 ≡ gets_cost w set m found.at = ap (λ b. cond b (gets_cost w set m found.at) 0) found.passes in
-      omega (arith, ap (gets_cost w set m) at, paid, le-sum_by-range (λ d. cond (bit_of x (h w k d)) (gets_cost w set m d) 0) found.at 0 (centre_count w) (omega arith) (omega (arith, found.high)))
+      let paid : cond (bit_of x (h w k found.at)) (gets_cost w (rule_of w set) m found.at) 0 ≡ gets_cost w (rule_of w set) m found.at = ap (λ b. cond b (gets_cost w (rule_of w set) m found.at) 0) found.passes in
+      omega (arith, ap (gets_cost w (rule_of w set) m) at, paid, le-sum_by-range (λ d. cond (bit_of x (h w k d)) (gets_cost w (rule_of w set) m d) 0) found.at 0 (centre_count w) (omega arith) (omega (arith, found.high)))
 
-  costs : policy_cost w set (decoded w set x) ≤ value_of (direct_costs w set) x
-  unfolding decoded
+  costs : policy_cost w set (Direct (rule_of w set).f (chosen_replicas w x) (chosen_primaries w set x)) ≤ value_of (direct_costs w set) x
   costs =
       let members = members_of w set in
       let n = centre_count w in
       let primary = map (chosen_primary w set x) (numbered_members w set) in
       let same : length members ≡ length primary = sym (length-map (numbered_members w set) (chosen_primary w set x) ∙ length-enumerate_from 0 members) in
       let kept = sum_by-range_agree (λ d. cond (bit_of x d) (replica_cost w set d) 0) (λ d. cond (has (chosen_replicas w x) d) (replica_cost w set d) 0) 0 n (λ d low high. ap (λ b. cond b (replica_cost w set d) 0) (same_bits d (omega arith))) in
-      let gets = numbered-zip-le (λ a m. chosen_gets w set x a m) (λ m near. gets_cost w set m near.at.0) nobody nowhere 0 members primary same
-      (λ k in'. subst (λ a. gets_cost w set (get_or members k nobody) (get_or primary k nowhere).at.0 ≤ chosen_gets w set x a (get_or members k nobody)) (let e : k ≡ 0 + k = omega arith in e) (gets_within k in')) in
+      let gets = numbered-zip-le (λ a m. chosen_gets w set x a m) (λ m near. gets_cost w (rule_of w set) m near.at.0) nobody nowhere 0 members primary same
+      (λ k in'. subst (λ a. gets_cost w (rule_of w set) (get_or members k nobody) (get_or primary k nowhere).at.0 ≤ chosen_gets w set x a (get_or members k nobody)) (let e : k ≡ 0 + k = omega arith in e) (gets_within k in')) in
       omega (arith, value-parts w set x, cost-parts w set (rule_of w set).f (chosen_replicas w x) primary within, kept, gets)
 
-pub feasible-decoded : (w : Lists) (set : ℕ) → centre_count w ≤ 16 → (rule_of w set).mode ≡ mode.Direct → (rule_of w set).providers ≡ 1 → 1 ≤ length (members_of w set) → (x : List Bool) → IsFeasible (direct_program w set) x → IsDecoded w set x
-unfolding direct_program
-feasible-decoded w set few is one some x feasible =
-    let c = rows-back w set x feasible.met in
-    record { allowed = allowed w set x few c is one some; cost = costs w set x few c }
+-- the policy that a choice of a direct set is
+pub decoded-direct : (w : Lists) (set : ℕ) (x : List Bool) → (rule_of w set).mode ≡ mode.Direct → decoded w set x ≡ Direct (rule_of w set).f (chosen_replicas w x) (chosen_primaries w set x)
+unfolding decoded
+decoded-direct w set x is = ap (λ m. decoded_by m w set x) is
+
+pub feasible-decoded : (w : Lists) (set : ℕ) → centre_count w ≤ 16 → (rule_of w set).mode ≡ mode.Direct → 1 ≤ length (members_of w set) → (x : List Bool) → IsFeasible (set_program w set) x → IsDecoded w set x
+unfolding set_program
+feasible-decoded w set few is some x feasible =
+    let P : Mode → Type 0 = λ m. All (Meets x) (rows_by m w set ++ provider_rows w set (length (costs_by m w set)) (keeping w)) in
+    let met = each-split (Meets x) (direct_rows w set) (provider_rows w set (length (direct_costs w set)) (keeping w)) (recursion_from_All (Meets x) (direct_rows w set ++ provider_rows w set (length (direct_costs w set)) (keeping w)) (subst P is feasible.met)) in
+    let c = rows-back w set x (All-from_recursion (Meets x) (direct_rows w set) met.0) in
+    let policy = decoded-direct w set x is in
+    let many = apart w set x few c some met.1 in
+    record {
+      allowed = subst (IsAllowed w set) (sym policy) (allowed w set x few c is many);
+      cost = subst (λ (q : Policy). policy_cost w set q ≤ value_of (set_costs w set) x) (sym policy) (omega (arith, costs w set x few c, value-set w set x is));
+    }

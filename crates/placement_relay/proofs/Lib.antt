@@ -1,10 +1,10 @@
-pub mod Sums
-pub mod Values
 pub mod Allowed
 pub mod MetRows
 pub mod CostParts
 pub mod PlacedLaws
 pub mod DecodedLaws
 pub mod DirectSets
-pub mod Loops
 pub mod Limits
+pub mod NearRows
+pub mod ReadingBits
+pub mod Keeping

@@ -1,59 +1,36 @@
 -- The program of a direct set keeps the limits of programs.
-use Rattle.std.proofs.Common.{◌≡◌, ℕ, zero, suc, ◌+◌, ◌*◌, ◌^◌, ◌<◌, ◌≤◌, inl, inr, Bool, true, false, cond, ◌&&◌, nat_lt, List, [], ◌∷◌, ◌++◌, length, get_or, map, Some, refl, sym, ap, subst, arith, pos, unsigned_abs}
-use Rattle.std.specs.Prelude.{slice_get, slice_index, All, ⊤}
-use Rattle.std.specs.List.{sum_by, filter, flat_map, range_with_len, AllByRecursion}
-use Rattle.std.specs.List.Sorted.{IsStrictlyIncreasing}
-use Rattle.std.proofs.lemmas.Bool.{cases_lt}
+use Rattle.std.proofs.Common.{◌≡◌, ℕ, ◌+◌, ◌*◌, ◌^◌, ◌<◌, ◌≤◌, inl, inr, Bool, true, false, cond, List, [], ◌∷◌, ◌++◌, length, map, refl, sym, ap, subst, ◌∙◌, arith, pos}
+use Rattle.std.specs.Prelude.{All, ⊤}
+use Rattle.std.specs.List.{filter, flat_map, AllByRecursion}
 use Rattle.std.proofs.lemmas.Nat.{mul-le}
-use Rattle.std.proofs.lemmas.List.{get_or_past, get_or-map, length-map, length-append}
+use Rattle.std.proofs.lemmas.List.{length-map, length-append}
 use Rattle.std.proofs.lemmas.List.Elements.{All-from_recursion, recursion_from_All}
-use Rattle.std.proofs.lemmas.List.Sums.{sum_by-cons, sum_by-le, length-filter, count_by-le-length}
-use Rattle.std.proofs.lemmas.List.FromFn.{length-range_with_len, get_or-range_with_len, length-map-range_with_len, length-enumerate_from}
-use Rattle.std.proofs.lemmas.List.Kept.{IsStrictlyIncreasing-filter}
-use Rattle.std.proofs.lemmas.Simd.{map-map}
-use Rattle.price_tables.specs.Limits.{IsPriceWithin, IsFareWithin}
-use Rattle.price_tables.specs.Tables.{no_centre}
+use Rattle.std.proofs.lemmas.List.Sums.{sum_by-le, length-filter, count_by-le-length}
+use Rattle.std.proofs.lemmas.List.FromFn.{length-range_with_len, length-map-range_with_len, length-enumerate_from}
 use Rattle.workload.specs.Limits.{IsRuleWithin}
-use Rattle.workload.specs.World.{Lists, IsComplete, IsDemandWithin, centre_count, price_of, fare_of, rule_of, members_of, no_fare}
+use Rattle.workload.specs.World.{Lists, IsDemandWithin, centre_count, price_of, fare_of, rule_of, members_of}
 use Rattle.workload.specs.declared.rules.Demand.{Demand}
+use Rattle.workload.proofs.Worlds.{price_within, fare_within}
 use Rattle.slo_rules.specs.Rules.{is_read_near, is_write_near}
-use Rattle.slo_rules.specs.Cost.{get_cost, put_cost}
-use Rattle.zero_one.specs.declared.rows.Entry.{Entry}
+use Rattle.slo_rules.specs.Cost.{get_cost, put_cost, gets_cost, puts_cost}
 use Rattle.zero_one.specs.declared.rows.Row.{Row}
 use Rattle.zero_one.specs.declared.programs.ProgramFault.{ProgramFault}
 use Rattle.zero_one.specs.declared.programs.ProgramFault.TheVariants.{NoSuchVar, Unsorted, Limit}
-use Rattle.zero_one.specs.Rows.{KnowsItsVars, HasRisingVars, row_weight, weight_of}
+use Rattle.zero_one.specs.Rows.{KnowsItsVars, row_weight, weight_of}
 use Rattle.zero_one.specs.Faults.{HasFault}
-use Rattle.placement_relay.specs.Direct.{centres, numbered_members, h, plus, minus, replica_cost, gets_cost, direct_costs, direct_rows, read_near, write_near, reads_somewhere, reads_a_replica, has_replicas}
+use Rattle.placement_rows.specs.Centres.{centres, numbered_members, read_near, write_near}
+use Rattle.placement_relay.specs.Reading.{h, reads_somewhere, reads_a_replica, has_replicas}
+use Rattle.placement_relay.specs.Direct.{replica_cost, direct_costs, direct_rows}
+use Rattle.placement_rows.specs.Providers.{is_first_of_provider, providers, numbered_providers, asks_providers, provider_costs, keeps_replica, enough_providers, provider_rows}
+use Rattle.placement_relay.specs.Programs.{costs_by, rows_by, set_costs, set_rows, keeping}
+use Rattle.placement_rows.proofs.Fits.{IsFit, plus_row, two_row, provider-rows-fit, at_place}
+use Rattle.placement_relay.proofs.Keeping.{keeping_rises, keeping_below, keeping_few}
 use Rattle.placement_relay.specs.Laws.{IsDirectSet}
-use Rattle.placement_relay.proofs.Sums.{length-blocks}
-use Rattle.placement_relay.proofs.MetRows.{nobody, each-append, each-map, each-flat_map, each-range, each-numbered, each-weaker}
+use Rattle.placement_rows.proofs.Sums.{length-blocks}
+use Rattle.placement_rows.proofs.Each.{each-append, each-map, each-flat_map, each-range, each-numbered, each-weaker}
+use Rattle.placement_relay.proofs.MetRows.{nobody}
 use Rattle.placement_relay.proofs.DirectSets.{set_within}
-use Rattle.placement_relay.proofs.Loops.{from_zero}
-
-price_within : (w : Lists) → IsComplete w → (d : ℕ) → IsPriceWithin (price_of w d)
-price_within w complete d = elim (cases_lt d (centre_count w)) [
-  | inl low ↦ complete.prices d no_centre low
-  | inr past ↦
-      let none : get_or w.centres d no_centre ≡ no_centre = get_or_past w.centres d no_centre past in
-      subst (λ c. IsPriceWithin c.price) (sym none) (record { store = omega arith; get = omega arith; put = omega arith })
-]
-
-no_fare_within : IsFareWithin no_fare
-no_fare_within = record { transfer = omega arith; latency = omega arith }
-
-fare_in_list : (w : Lists) → IsComplete w → (place : ℕ) → IsFareWithin (get_or w.fares place no_fare)
-fare_in_list w complete place = elim (cases_lt place (length w.fares)) [
-  | inl low ↦ complete.fares place no_fare low
-  | inr past ↦ subst IsFareWithin (sym (get_or_past w.fares place no_fare past)) no_fare_within
-]
-
-fare_within : (w : Lists) → IsComplete w → (from to : ℕ) → IsFareWithin (fare_of w from to)
-fare_within w complete from to =
-    elim (nat_lt from (centre_count w) && nat_lt to (centre_count w)) as (λ b. IsFareWithin (cond b (get_or w.fares (from * centre_count w + to) no_fare) no_fare)) [
-      | true ↦ fare_in_list w complete (from * centre_count w + to)
-      | false ↦ no_fare_within
-    ]
+use Rattle.placement_relay.proofs.NearRows.{from_zero}
 
 module _ (w : Lists) (set : ℕ) (s : IsDirectSet w set) where
   rule_within : IsRuleWithin (rule_of w set)
@@ -68,12 +45,12 @@ module _ (w : Lists) (set : ℕ) (s : IsDirectSet w set) where
   put_small : (a d : ℕ) → put_cost w (rule_of w set) a d ≤ 10 ^ 9 + 10 ^ 14
   put_small a d = omega (arith, (price_within w s.complete d).put, mul-le (rule_of w set).object (fare_of w a d).transfer (10 ^ 5) (10 ^ 9) rule_within.object (fare_within w s.complete a d).transfer)
 
-  gets_small : (m : Demand) → IsDemandWithin (centre_count w) m → (d : ℕ) → gets_cost w set m d < 10 ^ 24
+  gets_small : (m : Demand) → IsDemandWithin (centre_count w) m → (d : ℕ) → gets_cost w (rule_of w set) m d < 10 ^ 24
   gets_small m within d = omega (arith, mul-le m.gets (get_cost w (rule_of w set) d m.dc.0) (10 ^ 9) (10 ^ 9 + 10 ^ 14) within.counts.gets (get_small d m.dc.0))
 
   replica_small : (d : ℕ) → replica_cost w set d < 10 ^ 24
   replica_small d =
-      let puts : Demand → ℕ = λ m. m.puts * put_cost w (rule_of w set) m.dc.0 d in
+      let puts : Demand → ℕ = λ m. puts_cost w (rule_of w set) m m.dc.0 d in
       let each = each-weaker (IsDemandWithin (centre_count w)) (λ m. puts m ≤ 10 ^ 9 * (10 ^ 9 + 10 ^ 14)) (λ m within. mul-le m.puts (put_cost w (rule_of w set) m.dc.0 d) (10 ^ 9) (10 ^ 9 + 10 ^ 14) within.counts.puts (put_small m.dc.0 d)) (members_of w set) each_member in
       let sum = sum_by-le puts (10 ^ 9 * (10 ^ 9 + 10 ^ 14)) (members_of w set) (All-from_recursion (λ m. puts m ≤ 10 ^ 9 * (10 ^ 9 + 10 ^ 14)) (members_of w set) each) in
       let stored = mul-le (rule_of w set).stored (price_of w d).store (10 ^ 12) (10 ^ 9) rule_within.stored (price_within w s.complete d).store in
@@ -83,84 +60,32 @@ module _ (w : Lists) (set : ℕ) (s : IsDirectSet w set) where
   costs_small =
       let small : ℕ → Type 0 = λ cost. cost < 10 ^ 24 in
       let replicas = each-map small (λ d. ⊤) (replica_cost w set) (λ d _. replica_small d) (centres w) (each-range (λ d. ⊤) 0 (centre_count w) (λ d low high. tt)) in
-      let gets = each-flat_map small (IsDemandWithin (centre_count w)) (λ m. map (gets_cost w set m) (centres w)) (λ m within. each-map small (λ d. ⊤) (gets_cost w set m) (λ d _. gets_small m within d) (centres w) (each-range (λ d. ⊤) 0 (centre_count w) (λ d low high. tt))) (members_of w set) each_member in
+      let gets = each-flat_map small (IsDemandWithin (centre_count w)) (λ m. map (gets_cost w (rule_of w set) m) (centres w)) (λ m within. each-map small (λ d. ⊤) (gets_cost w (rule_of w set) m) (λ d _. gets_small m within d) (centres w) (each-range (λ d. ⊤) 0 (centre_count w) (λ d low high. tt))) (members_of w set) each_member in
       All-from_recursion small (direct_costs w set) (each-append small _ _ replicas gets)
 
   pub variables : length (direct_costs w set) ≡ centre_count w + length (members_of w set) * centre_count w
-  variables = omega (arith, length-append (map (replica_cost w set) (centres w)) (flat_map (λ m. map (gets_cost w set m) (centres w)) (members_of w set)), length-map-range_with_len (replica_cost w set) 0 (centre_count w), length-blocks (gets_cost w set) (centre_count w) (members_of w set))
+  variables = omega (arith, length-append (map (replica_cost w set) (centres w)) (flat_map (λ m. map (gets_cost w (rule_of w set) m) (centres w)) (members_of w set)), length-map-range_with_len (replica_cost w set) 0 (centre_count w), length-blocks (gets_cost w (rule_of w set)) (centre_count w) (members_of w set))
 
--- a row keeps what is asked of it among this many variables, and is light
-record IsFit (count : ℕ) (row : Row) : Type 0 where
-  known : KnowsItsVars count row
-  rising : HasRisingVars row
-  light : row_weight row ≤ 20
-
-range_rises : (n : ℕ) → IsStrictlyIncreasing (range_with_len 0 n)
-range_rises n k inside =
-    let long = length-range_with_len 0 n in
-    omega (arith, long, get_or-range_with_len 0 n k 0 (omega arith), get_or-range_with_len 0 n (k + 1) 0 (omega arith))
-
-shifted_rises : (o : ℕ) (xs : List ℕ) → IsStrictlyIncreasing xs → IsStrictlyIncreasing (map (λ d. o + d) xs)
-shifted_rises o xs rising k inside =
-    let long = length-map xs (λ d. o + d) in
-    omega (arith, rising k (omega arith), get_or-map (λ d. o + d) xs k 0 0 (omega arith), get_or-map (λ d. o + d) xs (k + 1) 0 0 (omega arith))
-
-weight_of_plus : (o : ℕ) (ds : List ℕ) → sum_by (λ (entry : Entry). unsigned_abs entry.coef) (map (λ d. plus (o + d)) ds) ≡ length ds
-weight_of_plus o [] = refl
-weight_of_plus o (d ∷ ds) = omega (arith, sum_by-cons (λ (entry : Entry). unsigned_abs entry.coef) (plus (o + d)) (map (λ d. plus (o + d)) ds), weight_of_plus o ds)
-
-each-filter : (P : ℕ → Type 0) (p : ℕ → Bool) (xs : List ℕ) → AllByRecursion P xs → AllByRecursion P (filter p xs)
-each-filter P p [] all = tt
-each-filter P p (x ∷ xs) all = elim (p x) as (λ b. AllByRecursion P (cond b (x ∷ filter p xs) (filter p xs))) [
-  | true ↦ (all.0, each-filter P p xs all.1)
-  | false ↦ each-filter P p xs all.1
-]
-
--- a row that adds the variables of some centres
-plus_row : (count o n least : ℕ) (p : ℕ → Bool) → o + n ≤ count → n ≤ 16 → least ≤ 4 → IsFit count (record { entries = map (λ d. plus (o + d)) (filter p (range_with_len 0 n)); bound = pos least })
-plus_row count o n least p low few small =
-    let near = filter p (range_with_len 0 n) in
-    let vars = map-map (λ (entry : Entry). entry.var) (λ d. plus (o + d)) near in
-    record {
-      known = All-from_recursion (λ (entry : Entry). entry.var < count) (map (λ d. plus (o + d)) near)
-          (each-map (λ (entry : Entry). entry.var < count) (λ d. d < n) (λ d. plus (o + d)) (λ d below. omega arith) near (each-filter (λ d. d < n) p (range_with_len 0 n) (each-range (λ d. d < n) 0 n (λ d from to. omega arith))));
-      rising = subst IsStrictlyIncreasing (sym vars) (shifted_rises o near (IsStrictlyIncreasing-filter p (range_with_len 0 n) (range_rises n)));
-      light = omega (arith, weight_of_plus o near, length-filter p (range_with_len 0 n), count_by-le-length p (range_with_len 0 n), length-range_with_len 0 n);
-    }
-
-two_rise : (u v k : ℕ) → u < v → k + 1 < 2 → slice_index (u ∷ v ∷ []) k < slice_index (u ∷ v ∷ []) (k + 1)
-two_rise u v zero rising inside = rising
-two_rise u v (suc k) rising inside = absurd (omega arith)
-
--- a row of two variables
-two_row : (count u v : ℕ) → u < v → v < count → IsFit count (record { entries = plus u ∷ minus v ∷ []; bound = pos 0 })
-two_row count u v rising low = record {
-  known = All-from_recursion (λ (entry : Entry). entry.var < count) (plus u ∷ minus v ∷ []) (omega arith, (low, tt));
-  rising = λ k inside. two_rise u v k rising inside;
-  light = omega arith;
-}
-
-module _ (w : Lists) (set : ℕ) (s : IsDirectSet w set) where
-  near_row_fits : (p : ℕ → Bool) → IsFit (length (direct_costs w set)) (has_replicas w set (filter p (centres w)))
+module _ (w : Lists) (set : ℕ) (s : IsDirectSet w set) (count : ℕ) (enough : length (direct_costs w set) ≤ count) where
+  near_row_fits : (p : ℕ → Bool) → IsFit count (has_replicas w set (filter p (centres w)))
   near_row_fits p =
-      subst (λ es. IsFit (length (direct_costs w set)) (record { entries = es; bound = pos ((rule_of w set).f + 1) })) (from_zero (filter p (centres w)))
-      (plus_row (length (direct_costs w set)) 0 (centre_count w) ((rule_of w set).f + 1) p (omega (arith, variables w set s)) s.complete.few_centres (omega (arith, (rule_within w set s).f)))
+      subst (λ es. IsFit count (record { entries = es; bound = pos ((rule_of w set).f + 1) })) (from_zero (filter p (centres w)))
+      (plus_row count 0 (centre_count w) ((rule_of w set).f + 1) p (omega (arith, variables w set s, enough)) s.complete.few_centres (omega (arith, (rule_within w set s).f)))
 
-  reads_fit : (a : ℕ) (m : Demand) → a < length (members_of w set) → IsFit (length (direct_costs w set)) (reads_somewhere w set (a, m))
+  reads_fit : (a : ℕ) (m : Demand) → a < length (members_of w set) → IsFit count (reads_somewhere w set (a, m))
   reads_fit a m low =
       let n = centre_count w in
       let block : (a + 1) * n ≤ length (members_of w set) * n = mul-le (a + 1) n (length (members_of w set)) n (omega arith) (omega arith) in
-      plus_row (length (direct_costs w set)) (n + a * n) n 1 (is_read_near w (rule_of w set) m.dc.0) (omega (arith, block, variables w set s)) s.complete.few_centres (omega arith)
+      plus_row count (n + a * n) n 1 (is_read_near w (rule_of w set) m.dc.0) (omega (arith, block, variables w set s, enough)) s.complete.few_centres (omega arith)
 
-  replica_fits : (a d : ℕ) → a < length (members_of w set) → d < centre_count w → IsFit (length (direct_costs w set)) (reads_a_replica w a d)
+  replica_fits : (a d : ℕ) → a < length (members_of w set) → d < centre_count w → IsFit count (reads_a_replica w a d)
   replica_fits a d in' low =
       let n = centre_count w in
       let block : (a + 1) * n ≤ length (members_of w set) * n = mul-le (a + 1) n (length (members_of w set)) n (omega arith) (omega arith) in
-      two_row (length (direct_costs w set)) d (h w a d) (omega arith) (omega (arith, block, variables w set s))
+      two_row count d (h w a d) (omega arith) (omega (arith, block, variables w set s, enough))
 
-  rows_fit : AllByRecursion (IsFit (length (direct_costs w set))) (direct_rows w set)
+  pub rows_fit : AllByRecursion (IsFit count) (direct_rows w set)
   rows_fit =
-      let count = length (direct_costs w set) in
       let members = members_of w set in
       let n = centre_count w in
       let numbers : AllByRecursion (λ (am : ℕ × Demand). am.0 < length members) (numbered_members w set) = each-numbered (λ (am : ℕ × Demand). am.0 < length members) nobody 0 members (λ k in'. omega arith) in
@@ -175,7 +100,7 @@ module _ (w : Lists) (set : ℕ) (s : IsDirectSet w set) where
       (each-map (IsFit count) (λ m. ⊤) (λ m. has_replicas w set (read_near w set m)) (λ m _. near_row_fits (is_read_near w (rule_of w set) m.dc.0)) members all))
       (each-map (IsFit count) (λ m. ⊤) (λ m. has_replicas w set (write_near w set m)) (λ m _. near_row_fits (is_write_near w (rule_of w set) m.dc.0)) members all)
 
-  row_count : length (direct_rows w set) ≤ 152
+  pub row_count : length (direct_rows w set) ≤ 152
   row_count =
       let members = members_of w set in
       let n = centre_count w in
@@ -199,29 +124,93 @@ module _ (w : Lists) (set : ℕ) (s : IsDirectSet w set) where
         length-map members (λ m. has_replicas w set (write_near w set m)),
       )
 
-  weight_small : weight_of (direct_rows w set) ≤ 152 * 20
-  weight_small =
-      let each = All-from_recursion (λ row. row_weight row ≤ 20) (direct_rows w set) (each-weaker (IsFit (length (direct_costs w set))) (λ row. row_weight row ≤ 20) (λ row fit. fit.light) (direct_rows w set) rows_fit) in
-      omega (arith, row_count, sum_by-le row_weight 20 (direct_rows w set) each)
+few_providers : (w : Lists) → length (providers w) ≤ centre_count w
+few_providers w = omega (arith, length-filter (is_first_of_provider w) (centres w), count_by-le-length (is_first_of_provider w) (centres w), length-range_with_len 0 (centre_count w))
 
-at_place : (P : Row → Type 0) (rows : List Row) (at : ℕ) (row : Row) → AllByRecursion P rows → slice_get rows at ≡ Some row → P row
-at_place P [] at row all is = cc
-at_place P (r ∷ rows) zero row all is = let same : r ≡ row = cc in subst P same all.0
-at_place P (r ∷ rows) (suc at) row all is = at_place P rows at row all.1 is
+long_costs : (w : Lists) (asks : Bool) → length {A = ℕ} (cond asks (map (λ (e : ℕ). 0) (providers w)) []) ≡ cond asks (length (providers w)) 0
+long_costs w true = let nothing : ℕ → ℕ = λ e. 0 in length-map (providers w) nothing
+long_costs w false = refl
+
+long_rows : (w : Lists) (set first : ℕ) (asks : Bool) → length (cond asks (map (keeps_replica w (keeping w)) (numbered_providers w first) ++ enough_providers w set first ∷ []) []) ≤ length (providers w) + 1
+long_rows w set first true = omega (arith, length-append (map (keeps_replica w (keeping w)) (numbered_providers w first)) (enough_providers w set first ∷ []), length-map (numbered_providers w first) (keeps_replica w (keeping w)), length-enumerate_from first (providers w))
+long_rows w set first false = omega arith
+
+module _ (w : Lists) (set : ℕ) (s : IsDirectSet w set) where
+  -- how many variables a set's program has
+  pub set_variables : length (set_costs w set) ≡ length (direct_costs w set) + cond (asks_providers w set) (length (providers w)) 0
+  set_variables =
+      ap (λ m. length (costs_by m w set ++ provider_costs w set)) s.mode
+      ∙ length-append (direct_costs w set) (provider_costs w set)
+      ∙ ap (λ k. length (direct_costs w set) + k) (long_costs w (asks_providers w set))
+
+  providers_fit : (asks : Bool) → AllByRecursion (IsFit (length (direct_costs w set) + cond asks (length (providers w)) 0)) (cond asks (map (keeps_replica w (keeping w)) (numbered_providers w (length (direct_costs w set))) ++ enough_providers w set (length (direct_costs w set)) ∷ []) [])
+  providers_fit false = tt
+  providers_fit true =
+      provider-rows-fit w set (length (direct_costs w set) + length (providers w)) (length (direct_costs w set)) (keeping w) (keeping_rises w) (keeping_below w (length (direct_costs w set)) (omega (arith, variables w set s)))
+      (keeping_few w s.complete.few_centres)
+      (omega arith) (omega (arith, few_providers w, s.complete.few_centres)) (rule_within w set s).providers true
+
+  all_fit : AllByRecursion (IsFit (length (set_costs w set))) (set_rows w set)
+  all_fit =
+      let mine = length (direct_costs w set) + cond (asks_providers w set) (length (providers w)) 0 in
+      subst (λ m. AllByRecursion (IsFit (length (set_costs w set))) (rows_by m w set ++ provider_rows w set (length (costs_by m w set)) (keeping w))) (sym s.mode)
+      (subst (λ k. AllByRecursion (IsFit k) (direct_rows w set ++ provider_rows w set (length (direct_costs w set)) (keeping w))) (sym set_variables)
+      (each-append (IsFit mine) (direct_rows w set) (provider_rows w set (length (direct_costs w set)) (keeping w)) (rows_fit w set s mine (omega arith)) (providers_fit (asks_providers w set))))
+
+  all_rows : length (set_rows w set) ≤ 169
+  all_rows =
+      omega (
+        arith,
+        ap (λ m. length (rows_by m w set ++ provider_rows w set (length (costs_by m w set)) (keeping w))) s.mode,
+        length-append (direct_rows w set) (provider_rows w set (length (direct_costs w set)) (keeping w)),
+        row_count w set s (length (direct_costs w set)) (omega arith),
+        long_rows w set (length (direct_costs w set)) (asks_providers w set),
+        few_providers w,
+        s.complete.few_centres,
+      )
+
+  all_weight : weight_of (set_rows w set) ≤ 169 * 288
+  all_weight =
+      let each = All-from_recursion (λ row. row_weight row ≤ 288) (set_rows w set) (each-weaker (IsFit (length (set_costs w set))) (λ row. row_weight row ≤ 288) (λ row fit. fit.light) (set_rows w set) all_fit) in
+      omega (arith, all_rows, sum_by-le row_weight 288 (set_rows w set) each)
+
+  few_or_none : (asks : Bool) → cond asks (length (providers w)) 0 ≤ 16
+  few_or_none true = omega (arith, few_providers w, s.complete.few_centres)
+  few_or_none false = omega arith
+
+  all_variables : length (set_costs w set) ≤ 160
+  all_variables =
+      let blocks : length (members_of w set) * centre_count w ≤ 8 * 16 = mul-le (length (members_of w set)) (centre_count w) 8 16 (set_within w set s).few_members s.complete.few_centres in
+      omega (arith, set_variables, variables w set s, blocks, s.complete.few_centres, few_or_none (asks_providers w set))
+
+nothing_small : (w : Lists) (asks : Bool) → AllByRecursion (λ cost. cost < 10 ^ 24) (cond asks (map (λ (e : ℕ). 0) (providers w)) [])
+nothing_small w true = each-map (λ cost. cost < 10 ^ 24) (λ (e : ℕ). ⊤) (λ (e : ℕ). 0) (λ e _. omega arith) (providers w) (any (providers w))
+  where
+    any : (xs : List ℕ) → AllByRecursion (λ (e : ℕ). ⊤) xs
+    any [] = tt
+    any (x ∷ xs) = (tt, any xs)
+nothing_small w false = tt
+
+-- all costs are small
+pub set_costs_small : (w : Lists) (set : ℕ) → IsDirectSet w set → All (λ cost. cost < 10 ^ 24) (set_costs w set)
+set_costs_small w set s =
+    let small : ℕ → Type 0 = λ cost. cost < 10 ^ 24 in
+    subst (λ m. All small (costs_by m w set ++ provider_costs w set)) (sym s.mode)
+    (All-from_recursion small (direct_costs w set ++ provider_costs w set)
+    (each-append small (direct_costs w set) (provider_costs w set) (recursion_from_All small (direct_costs w set) (costs_small w set s)) (nothing_small w (asks_providers w set))))
 
 -- so the making of the program finds no fault
-pub no_fault : (w : Lists) (set : ℕ) → IsDirectSet w set → (costs : List ℕ) (rows : List Row) → costs ≡ direct_costs w set → rows ≡ direct_rows w set → (fault : ProgramFault) → HasFault costs rows fault → ⊥
+pub no_fault : (w : Lists) (set : ℕ) → IsDirectSet w set → (costs : List ℕ) (rows : List Row) → costs ≡ set_costs w set → rows ≡ set_rows w set → (fault : ProgramFault) → HasFault costs rows fault → ⊥
 no_fault w set s costs rows same same' (NoSuchVar at) has =
-    let fits = subst (AllByRecursion (IsFit (length (direct_costs w set)))) (sym same') (rows_fit w set s) in
-    has.broken.2 (subst (λ cs. KnowsItsVars (length cs) has.broken.0) (sym same) (at_place (IsFit (length (direct_costs w set))) rows at has.broken.0 fits has.broken.1).known)
+    let fits = subst (AllByRecursion (IsFit (length (set_costs w set)))) (sym same') (all_fit w set s) in
+    has.broken.2 (subst (λ cs. KnowsItsVars (length cs) has.broken.0) (sym same) (at_place (IsFit (length (set_costs w set))) rows at has.broken.0 fits has.broken.1).known)
 no_fault w set s costs rows same same' (Unsorted at) has =
-    let fits = subst (AllByRecursion (IsFit (length (direct_costs w set)))) (sym same') (rows_fit w set s) in
-    has.1.broken.2 (at_place (IsFit (length (direct_costs w set))) rows at has.1.broken.0 fits has.1.broken.1).rising
+    let fits = subst (AllByRecursion (IsFit (length (set_costs w set)))) (sym same') (all_fit w set s) in
+    has.1.broken.2 (at_place (IsFit (length (set_costs w set))) rows at has.1.broken.0 fits has.1.broken.1).rising
 no_fault w set s costs rows same same' (Limit what number) has =
-    let blocks : length (members_of w set) * centre_count w ≤ 8 * 16 = mul-le (length (members_of w set)) (centre_count w) 8 16 (set_within w set s).few_members s.complete.few_centres in
-    let few : length costs ≤ 144 = omega (arith, ap length same, variables w set s, blocks, s.complete.few_centres) in
-    let short : length rows ≤ 152 = omega (arith, ap length same', row_count w set s) in
-    let light : weight_of rows ≤ 3040 = omega (arith, ap weight_of same', weight_small w set s) in
+    let few : length costs ≤ 160 = omega (arith, ap length same, all_variables w set s) in
+    let short : length rows ≤ 169 = omega (arith, ap length same', all_rows w set s) in
+    let light : weight_of rows ≤ 169 * 288 = omega (arith, ap weight_of same', all_weight w set s) in
     elim has.2 [
       | inl many ↦ omega (arith, few, many.1, many.2)
       | inr rest ↦ elim rest [

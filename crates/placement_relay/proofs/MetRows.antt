@@ -1,67 +1,15 @@
 -- What it means that a choice meets the rows of a direct set.
-use Rattle.std.proofs.Common.{◌≡◌, ℕ, zero, suc, ◌+◌, ◌<◌, ◌≤◌, Bool, true, List, [], ◌∷◌, ◌++◌, length, get_or, map, subst, inl, inr, arith}
-use Rattle.std.specs.List.{count_by, range_with_len, All, AllByRecursion, flat_map, enumerate_from}
+use Rattle.std.proofs.Common.{◌≡◌, ℕ, ◌+◌, ◌<◌, ◌≤◌, Bool, true, List, ◌++◌, length, get_or, map, subst, arith}
+use Rattle.std.specs.List.{count_by, All, AllByRecursion, flat_map}
 use Rattle.std.proofs.lemmas.List.Elements.{All-from_recursion, recursion_from_All}
-use Rattle.std.proofs.lemmas.Bool.{cases_lt}
 use Rattle.workload.specs.World.{Lists, centre_count, rule_of, members_of}
 use Rattle.workload.specs.declared.rules.Demand.{Demand}
 use Rattle.zero_one.specs.Rows.{Meets, bit_of}
-use Rattle.placement_relay.specs.Direct.{centres, numbered_members, h, read_near, write_near, reads_somewhere, reads_a_replica, has_replicas, direct_rows}
-use Rattle.placement_relay.proofs.Values.{meets-plus, meets-plus-back, meets-under, meets-under-back}
-
--- a fact of each element of two lists, joined
-pub each-append : {X : Type 0} (P : X → Type 0) (xs ys : List X) → AllByRecursion P xs → AllByRecursion P ys → AllByRecursion P (xs ++ ys)
-each-append P [] ys a b = b
-each-append P (x ∷ xs) ys a b = (a.0, each-append P xs ys a.1 b)
-
-pub each-split : {X : Type 0} (P : X → Type 0) (xs ys : List X) → AllByRecursion P (xs ++ ys) → AllByRecursion P xs × AllByRecursion P ys
-each-split P [] ys a = (tt, a)
-each-split P (x ∷ xs) ys a = let rest = each-split P xs ys a.1 in ((a.0, rest.0), rest.1)
-
--- a fact of what a function gives of each element
-pub each-map : {X Y : Type 0} (P : Y → Type 0) (Q : X → Type 0) (f : X → Y) → ((x : X) → Q x → P (f x)) → (xs : List X) → AllByRecursion Q xs → AllByRecursion P (map f xs)
-each-map P Q f step [] a = tt
-each-map P Q f step (x ∷ xs) a = (step x a.0, each-map P Q f step xs a.1)
-
-pub each-map_back : {X Y : Type 0} (P : Y → Type 0) (Q : X → Type 0) (f : X → Y) → ((x : X) → P (f x) → Q x) → (xs : List X) → AllByRecursion P (map f xs) → AllByRecursion Q xs
-each-map_back P Q f step [] a = tt
-each-map_back P Q f step (x ∷ xs) a = (step x a.0, each-map_back P Q f step xs a.1)
-
-pub each-flat_map : {X Y : Type 0} (P : Y → Type 0) (Q : X → Type 0) (f : X → List Y) → ((x : X) → Q x → AllByRecursion P (f x)) → (xs : List X) → AllByRecursion Q xs → AllByRecursion P (flat_map f xs)
-each-flat_map P Q f step [] a = tt
-each-flat_map P Q f step (x ∷ xs) a = each-append P (f x) (flat_map f xs) (step x a.0) (each-flat_map P Q f step xs a.1)
-
-pub each-flat_map_back : {X Y : Type 0} (P : Y → Type 0) (Q : X → Type 0) (f : X → List Y) → ((x : X) → AllByRecursion P (f x) → Q x) → (xs : List X) → AllByRecursion P (flat_map f xs) → AllByRecursion Q xs
-each-flat_map_back P Q f step [] a = tt
-each-flat_map_back P Q f step (x ∷ xs) a =
-    let parts = each-split P (f x) (flat_map f xs) a in
-    (step x parts.0, each-flat_map_back P Q f step xs parts.1)
-
--- a fact of each number of a range
-pub each-range : (P : ℕ → Type 0) (s n : ℕ) → ((d : ℕ) → s ≤ d → d < s + n → P d) → AllByRecursion P (range_with_len s n)
-each-range P s zero f = tt
-each-range P s (suc n) f = (f s (omega arith) (omega arith), each-range P (s + 1) n (λ d low high. f d (omega arith) (omega arith)))
-
-pub each-range_at : (P : ℕ → Type 0) (s n : ℕ) → AllByRecursion P (range_with_len s n) → (d : ℕ) → s ≤ d → d < s + n → P d
-each-range_at P s zero a d low high = absurd (omega arith)
-each-range_at P s (suc n) a d low high = elim (cases_lt s d) [
-  | inl above ↦ each-range_at P (s + 1) n a.1 d (omega arith) (omega arith)
-  | inr below ↦ subst P (let e : s ≡ d = omega arith in e) a.0
-]
-
--- a fact of each numbered element
-pub each-numbered : {X : Type 0} (P : ℕ × X → Type 0) (d : X) (a : ℕ) (xs : List X) → ((k : ℕ) → k < length xs → P (a + k, get_or xs k d)) → AllByRecursion P (enumerate_from a xs)
-each-numbered P d a [] f = tt
-each-numbered P d a (x ∷ xs) f = (
-  subst (λ b. P (b, x)) (let e : a + 0 ≡ a = omega arith in e) (f 0 (omega arith)),
-  each-numbered P d (a + 1) xs (λ k h. subst (λ b. P (b, get_or xs k d)) (let e : a + suc k ≡ (a + 1) + k = omega arith in e) (f (suc k) (omega arith))),
-)
-
-pub each-numbered_at : {X : Type 0} (P : ℕ × X → Type 0) (d : X) (a : ℕ) (xs : List X) → AllByRecursion P (enumerate_from a xs) → (k : ℕ) → k < length xs → P (a + k, get_or xs k d)
-each-numbered_at P d a [] all k h = absurd (omega arith)
-each-numbered_at P d a (x ∷ xs) all zero h = subst (λ b. P (b, x)) (let e : a ≡ a + 0 = omega arith in e) all.0
-each-numbered_at P d a (x ∷ xs) all (suc k) h =
-    subst (λ b. P (b, get_or xs k d)) (let e : (a + 1) + k ≡ a + suc k = omega arith in e) (each-numbered_at P d (a + 1) xs all.1 k (omega arith))
+use Rattle.placement_rows.specs.Centres.{centres, numbered_members, read_near, write_near}
+use Rattle.placement_relay.specs.Reading.{h, reads_somewhere, reads_a_replica, has_replicas}
+use Rattle.placement_relay.specs.Direct.{direct_rows}
+use Rattle.placement_rows.proofs.Each.{each-append, each-split, each-map, each-map_back, each-flat_map, each-flat_map_back, each-range, each-range_at, each-numbered, each-numbered_at}
+use Rattle.placement_rows.proofs.Values.{meets-plus, meets-plus-back, meets-under, meets-under-back}
 
 -- no member
 abbrev pub nobody : Demand
@@ -120,8 +68,3 @@ rows-back w set x all =
       reading = each-map_back (Meets x) (λ m. f + 1 ≤ count_by (bit_of x) (read_near w set m)) (λ m. has_replicas w set (read_near w set m)) (λ m met. meets-plus-back x (λ d. d) (read_near w set m) (f + 1) met) members b.1;
       writing = each-map_back (Meets x) (λ m. f + 1 ≤ count_by (bit_of x) (write_near w set m)) (λ m. has_replicas w set (write_near w set m)) (λ m met. meets-plus-back x (λ d. d) (write_near w set m) (f + 1) met) members a.1;
     }
-
--- a weaker fact of each element
-pub each-weaker : {X : Type 0} (P Q : X → Type 0) → ((x : X) → P x → Q x) → (xs : List X) → AllByRecursion P xs → AllByRecursion Q xs
-each-weaker P Q step [] a = tt
-each-weaker P Q step (x ∷ xs) a = (step x a.0, each-weaker P Q step xs a.1)

@@ -6,27 +6,26 @@ use Rattle.slo_rules.specs.Rules.{IsAllowed}
 use Rattle.slo_rules.specs.Cost.{policy_cost}
 use Rattle.workload.specs.declared.rules.Mode.TheVariants.{Direct}
 use Rattle.zero_one.specs.Program.{IsFeasible, value_of}
-use Rattle.placement_relay.specs.Direct.{direct_program, direct_costs}
+use Rattle.placement_relay.specs.Programs.{set_program, set_costs}
 use Rattle.placement_relay.specs.Placed.{placed, decoded}
 
--- a set of a complete world is direct and asks for one provider
+-- a set of a complete world is direct
 pub record IsDirectSet (w : Lists) (set : ℕ) : Type 0 where
   pub complete : IsComplete w
   pub there : set < length w.sets
   pub mode : (rule_of w set).mode ≡ Direct
-  pub one_provider : (rule_of w set).providers ≡ 1
 
 -- the choice that a policy is meets the program, and its value is the policy's cost
 pub record IsPlaced (w : Lists) (set : ℕ) (q : Policy) : Type 0 where
-  pub feasible : IsFeasible (direct_program w set) (placed w set q)
-  pub value : value_of (direct_costs w set) (placed w set q) ≡ policy_cost w set q
+  pub feasible : IsFeasible (set_program w set) (placed w set q)
+  pub value : value_of (set_costs w set) (placed w set q) ≡ policy_cost w set q
 
 -- the policy that a choice is is allowed, and costs at most the choice's value
 pub record IsDecoded (w : Lists) (set : ℕ) (x : List Bool) : Type 0 where
   pub allowed : IsAllowed w set (decoded w set x)
-  pub cost : policy_cost w set (decoded w set x) ≤ value_of (direct_costs w set) x
+  pub cost : policy_cost w set (decoded w set x) ≤ value_of (set_costs w set) x
 
 -- a choice is least for a program: it meets it, and every choice that does has at least its value
 pub record IsLeastChoice (w : Lists) (set : ℕ) (x : List Bool) : Type 0 where
-  pub feasible : IsFeasible (direct_program w set) x
-  pub least : (y : List Bool) → IsFeasible (direct_program w set) y → value_of (direct_costs w set) x ≤ value_of (direct_costs w set) y
+  pub feasible : IsFeasible (set_program w set) x
+  pub least : (y : List Bool) → IsFeasible (set_program w set) y → value_of (set_costs w set) x ≤ value_of (set_costs w set) y

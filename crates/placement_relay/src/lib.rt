@@ -15,7 +15,7 @@ pub use direct::{is_direct_set, variable_count};
 pub use encoding::encode;
 pub use laws::{
     allowed_policies_are_placed, feasible_choices_are_decoded, least_choices_are_least_policies,
-    no_choice_is_no_policy, worked_two_centres,
+    no_choice_is_no_policy, worked_relay, worked_two_centres,
 };
 pub use placing::place;
 

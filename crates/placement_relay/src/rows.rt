@@ -2,14 +2,21 @@
 ghost use Rattle.std.specs.Prelude.{◌≡◌, ◌+◌, ◌*◌, ◌<◌, ◌≤◌, pos, [], ◌∷◌, ◌++◌, length, map, IfOk, OnOk};
 ghost use Rattle.std.specs.List.{flat_map};
 ghost use Rattle.workload.specs.World.{IsDemandWithin, centre_count, members_of};
-ghost use Rattle.placement_relay.specs.Direct.{centres, numbered_members, h, plus, minus, read_near, write_near, reads_somewhere, reads_a_replica, has_replicas, direct_rows};
+ghost use Rattle.placement_rows.specs.Centres.{centres, numbered_members, read_near, write_near};
+ghost use Rattle.placement_relay.specs.Reading.{h, reads_somewhere, reads_a_replica, has_replicas};
+ghost use Rattle.placement_rows.specs.Rows.{plus, minus};
+ghost use Rattle.placement_relay.specs.Direct.{direct_costs, direct_rows};
+ghost use Rattle.placement_rows.specs.Providers.{provider_rows};
+ghost use Rattle.placement_relay.specs.Programs.{keeping};
 ghost use Rattle.placement_relay.specs.Laws.{IsDirectSet};
 
+use crate::direct::first_provider;
 use crate::near::{read_near, write_near};
+use placement_rows::{backed_row, plus, push_provider_rows};
 use span_base::{Listed, SetId};
 use std::alloc::{AllocError, Global};
 use workload::{Demand, World};
-use zero_one::{Entry, Row};
+use zero_one::Row;
 
 /// The first of the variables that say where a member reads; the member is counted from 0.
 pub(crate) fn first_read(world: &World, member: usize) -> u16
@@ -28,30 +35,11 @@ fn sum_row(alloc: Global, near: &[u8], first: u16, least: u8) -> Result<Row, All
 {
     let mut entries = Vec::new(alloc);
     for d in near {
-        entries.push(Entry {
-            var: first + u16::from(*d),
-            coef: 1,
-        })?;
+        entries.push(plus(first + u16::from(*d)))?;
     }
     Ok(Row {
         entries: Listed::from_vec(entries),
         bound: i32::from(least),
-    })
-}
-
-/// The first variable is 1 if the second is.
-fn implied_row(alloc: Global, implied: u16, by: u16) -> Result<Row, AllocError>
-    ensures { IfOk result (λ row. row ≡ record { entries = plus implied ∷ minus by ∷ []; bound = pos 0 }) }
-{
-    let mut entries = Vec::new(alloc);
-    entries.push(Entry {
-        var: implied,
-        coef: 1,
-    })?;
-    entries.push(Entry { var: by, coef: -1 })?;
-    Ok(Row {
-        entries: Listed::from_vec(entries),
-        bound: 0,
     })
 }
 
@@ -119,7 +107,7 @@ fn push_reads_somewhere(
 }
 
 /// Puts at the end that the member reads at replicas alone.
-#[tactic(auto, using(crate::proofs::Loops::loops))]
+#[tactic(auto, using(placement_rows::proofs::Loops::loops))]
 fn push_reads_of(
     rows: &mut Vec<Row>,
     alloc: Global,
@@ -131,7 +119,7 @@ fn push_reads_of(
 {
     let first = first_read(world, member);
     for d in 0..world.centre_count() {
-        rows.push(implied_row(alloc, u16::from(d), first + u16::from(d))?)?;
+        rows.push(backed_row(alloc, u16::from(d), first + u16::from(d))?)?;
     }
     Ok(())
 }
@@ -184,8 +172,8 @@ fn push_write_near(
     Ok(())
 }
 
-/// All rows.
-pub(crate) fn direct_rows(alloc: Global, world: &World, set: SetId) -> Result<Vec<Row>, AllocError>
+/// The mode's own rows.
+fn direct_rows(alloc: Global, world: &World, set: SetId) -> Result<Vec<Row>, AllocError>
     requires { IsDirectSet world.now set.0 }
     ensures { IfOk result (λ rows. rows.items ≡ direct_rows world.now set.0) }
 {
@@ -194,5 +182,29 @@ pub(crate) fn direct_rows(alloc: Global, world: &World, set: SetId) -> Result<Ve
     push_reads_a_replica(&mut rows, alloc, world, set)?;
     push_read_near(&mut rows, alloc, world, set)?;
     push_write_near(&mut rows, alloc, world, set)?;
+    Ok(rows)
+}
+
+/// What keeps a replica in each centre: its variable, which has the centre's number.
+#[tactic(auto, using(placement_rows::proofs::Loops::loops))]
+fn keeping(alloc: Global, world: &World) -> Result<Vec<(u16, u8)>, AllocError>
+    ensures { IfOk result (λ vars. vars.items ≡ keeping world.now) }
+{
+    let mut vars = Vec::with_capacity(alloc, usize::from(world.centre_count()))?;
+    for d in 0..world.centre_count() {
+        vars.push((u16::from(d), d))?;
+    }
+    Ok(vars)
+}
+
+/// All rows.
+pub(crate) fn set_rows(alloc: Global, world: &World, set: SetId) -> Result<Vec<Row>, AllocError>
+    requires { IsDirectSet world.now set.0 }
+    ensures { IfOk result (λ rows. rows.items ≡ direct_rows world.now set.0 ++ provider_rows world.now set.0 (length (direct_costs world.now set.0)) (keeping world.now)) }
+{
+    let mut rows = direct_rows(alloc, world, set)?;
+    let vars = keeping(alloc, world)?;
+    let first = first_provider(world, set);
+    push_provider_rows(&mut rows, alloc, world, set, first, vars.as_slice())?;
     Ok(rows)
 }

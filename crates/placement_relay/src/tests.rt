@@ -1,5 +1,5 @@
 //! Programs, choices and policies of small worlds.
-ghost use Rattle.std.specs.Prelude.{IfOk};
+ghost use Rattle.std.specs.Prelude.{◌≤◌, IfOk};
 ghost use Rattle.span_base.specs.Name.{IsName};
 ghost use Rattle.placement_relay.specs.Laws.{IsDirectSet};
 
@@ -10,7 +10,6 @@ use span_base::{DcId, DcSet, Listed, Near, Policy, SetId, Word, read_name};
 use std::alloc::{AllocError, Global};
 use std::test::Fail;
 use workload::{Demand, Mode, SetRule, Workload, World};
-use zero_one::{Entry, Program, Row};
 
 const SET: SetId = SetId(0);
 
@@ -64,16 +63,18 @@ fn dear_and_cheap(alloc: Global) -> Result<Tables, Fail> {
     Ok(tables)
 }
 
-/// One direct set with one member, in the first centre.
-fn one_set(alloc: Global, goal: u32) -> Result<Workload, Fail> {
+/// One direct set with one member, in the first centre, that asks for so many providers.
+fn one_set(alloc: Global, providers: u8) -> Result<Workload, Fail>
+    requires { 1 ≤ providers }
+{
     let rule = SetRule {
         mode: Mode::Direct,
         f: 0,
-        read_slo: goal,
-        write_slo: goal,
+        read_slo: 30,
+        write_slo: 30,
         stored: 100,
         object: 2,
-        providers: 1,
+        providers,
     };
     let member = Demand {
         dc: DcId(0),
@@ -94,76 +95,32 @@ fn world_of(tables: Tables, load: Workload) -> Result<World, Fail> {
     Ok(World::make(tables, load)?)
 }
 
-/// A dear centre with the one member, and a cheap one 20 ms away.
-fn two_centres(alloc: Global, goal: u32) -> Result<World, Fail>
+/// A dear centre with the one member, and a cheap one 20 ms away, each of its own provider.
+fn two_centres(alloc: Global, providers: u8) -> Result<World, Fail>
+    requires { 1 ≤ providers }
     ensures { IfOk result (λ world. IsDirectSet world 0) }
 {
-    let world = world_of(dear_and_cheap(alloc)?, one_set(alloc, goal)?)?;
+    let world = world_of(dear_and_cheap(alloc)?, one_set(alloc, providers)?)?;
     if world.sets() == 0 || !is_direct_set(&world, SET) {
         return Err(Fail::new("no direct set"));
     }
     Ok(world)
 }
 
-fn at(alloc: Global, replicas: DcSet, primary: u8) -> Result<Policy, AllocError> {
+/// A policy with the primary of the one member.
+fn at(alloc: Global, bits: u16, primary: u8) -> Result<Policy, AllocError> {
+    let near = Near {
+        member: DcId(0),
+        at: DcId(primary),
+    };
     Ok(Policy::Direct {
         f: 0,
-        replicas,
-        primary: Listed::from_vec(vec![in alloc;
-            Near {
-                member: DcId(0),
-                at: DcId(primary)
-            },
-        ]?),
+        replicas: DcSet::from_bits(bits),
+        primary: Listed::from_vec(vec![in alloc; near]?),
     })
 }
 
-fn is_row(row: &Row, entries: &[Entry], bound: i32) -> bool {
-    row.entries.as_slice() == entries && row.bound == bound
-}
-
-fn entry(var: u16, coef: i32) -> Entry {
-    Entry { var, coef }
-}
-
-fn rows_of(program: &Program) -> usize {
-    program.rows().len()
-}
-
-#[test]
-fn program_of_two_centres(rt: HostRuntime) -> Result<(), Fail> {
-    let alloc = rt.alloc();
-    let world = two_centres(alloc, 30)?;
-    let program = encode(alloc, &world, SET)?;
-    assert!(rt; program.costs() == [1028, 152, 50, 110].as_slice());
-    assert_eq!(rt; rows_of(&program), 5);
-    let rows = program.rows();
-    for (at, row) in rows.iter().enumerate() {
-        let is = match at {
-            0 => is_row(row, &[entry(2, 1), entry(3, 1)], 1),
-            1 => is_row(row, &[entry(0, 1), entry(2, -1)], 0),
-            2 => is_row(row, &[entry(1, 1), entry(3, -1)], 0),
-            _ => is_row(row, &[entry(0, 1), entry(1, 1)], 1),
-        };
-        assert!(rt; is);
-    }
-    Ok(())
-}
-
-#[test]
-fn nothing_is_near_enough(rt: HostRuntime) -> Result<(), Fail> {
-    let alloc = rt.alloc();
-    let world = two_centres(alloc, 0)?;
-    let program = encode(alloc, &world, SET)?;
-    for (at, row) in program.rows().iter().enumerate() {
-        if at == 0 || at > 2 {
-            assert!(rt; is_row(row, &[], 1));
-        }
-    }
-    Ok(())
-}
-
-/// The bits of an allowed policy, and the policy that they give.
+/// Whether an allowed policy has these bits, and they give the policy.
 fn there_and_back(
     alloc: Global,
     world: &World,
@@ -183,33 +140,26 @@ fn there_and_back(
 #[test]
 fn policies_are_choices(rt: HostRuntime) -> Result<(), Fail> {
     let alloc = rt.alloc();
-    let world = two_centres(alloc, 30)?;
-    let x = DcSet::empty().with(DcId(0));
-    let y = DcSet::empty().with(DcId(1));
-    let both = x.with(DcId(1));
-    assert!(rt;
-        there_and_back(
-            alloc,
-            &world,
-            &at(alloc, x, 0)?,
-            &[true, false, true, false]
-        )?
-    );
-    assert!(rt;
-        there_and_back(
-            alloc,
-            &world,
-            &at(alloc, y, 1)?,
-            &[false, true, false, true]
-        )?
-    );
-    assert!(rt;
-        there_and_back(
-            alloc,
-            &world,
-            &at(alloc, both, 0)?,
-            &[true, true, true, false]
-        )?
-    );
+    let world = two_centres(alloc, 1)?;
+    assert!(rt; encode(alloc, &world, SET)?.costs() == [1028, 152, 50, 110].as_slice());
+    for (replicas, primary, bits) in [
+        (1, 0, [true, false, true, false]),
+        (2, 1, [false, true, false, true]),
+        (3, 0, [true, true, true, false]),
+    ] {
+        let policy = at(alloc, replicas, primary)?;
+        assert!(rt; there_and_back(alloc, &world, &policy, bits.as_slice())?);
+    }
+    Ok(())
+}
+
+#[test]
+fn two_providers_are_chosen(rt: HostRuntime) -> Result<(), Fail> {
+    let alloc = rt.alloc();
+    let world = two_centres(alloc, 2)?;
+    assert!(rt; encode(alloc, &world, SET)?.costs() == [1028, 152, 50, 110, 0, 0].as_slice());
+    let policy = at(alloc, 3, 0)?;
+    let bits = [true, true, true, false, true, true];
+    assert!(rt; there_and_back(alloc, &world, &policy, bits.as_slice())?);
     Ok(())
 }

@@ -1,5 +1,5 @@
 -- What price tables say.
-use Rattle.std.specs.Prelude.{◌≡◌, ℕ, ◌+◌, ◌*◌, ◌<◌, ◌≤◌, List, [], ◌∷◌, ◌++◌, length, map, replicate, nat_eq, Option, Some, None, IsSome, All, slice_index_or, slice_set}
+use Rattle.std.specs.Prelude.{◌≡◌, ℕ, ◌+◌, ◌*◌, ◌<◌, ◌≤◌, ◌&&◌, if◌then◌else◌, List, [], ◌∷◌, ◌++◌, length, map, replicate, nat_eq, nat_lt, Option, Some, None, IsSome, All, slice_index_or, slice_set}
 use Rattle.std.specs.List.{position, IsDistinct}
 use Rattle.std.specs.Cmp.Lexicographic.{pointwise}
 use Rattle.span_base.specs.Name.{IsName}
@@ -33,9 +33,14 @@ centre_at t dc = slice_index_or t.centres dc no_centre
 abbrev pub number_of : Tabled → List ℕ → Option ℕ
 number_of t name = position (pointwise nat_eq name) (map (λ c. c.name) t.centres)
 
--- the fare of the link between two centres
+-- the fare at the place of a link
 abbrev pub link_at : Tabled → ℕ → ℕ → Option Fare
 link_at t from to = slice_index_or t.links (from * 16 + to) None
+
+-- the fare of the link from one centre to another, nothing where one of them isn't in the tables
+abbrev pub link_between : Tabled → ℕ → ℕ → Option Fare
+link_between t from to =
+    if nat_lt from (count_of t) && nat_lt to (count_of t) then link_at t from to else None
 
 -- the tables with one more centre
 abbrev pub with_centre : Tabled → Centre → Tabled

@@ -12,5 +12,6 @@ pub enum TableFault {
     UnknownFrom,
     /// No centre has the name that the link goes to.
     UnknownTo,
+    /// There was no memory for the centre.
     NoMemory(AllocError),
 }

@@ -7,7 +7,8 @@ mod prices;
 mod tables;
 
 pub use fault::TableFault;
-pub use prices::{Centre, DcPrice, Fare, Pair};
+pub use limits::{MAX_LATENCY, MAX_PRICE};
+pub use prices::{Centre, DcPrice, Fare, NO_FARE, NO_PRICE, Pair};
 pub use tables::Tables;
 
 #[cfg(test)]

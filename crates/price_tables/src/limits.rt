@@ -9,7 +9,7 @@ use span_base::What;
 
 /// The greatest price, in pico-dollars.
 pub const MAX_PRICE: u64 = 1_000_000_000;
-/// The greatest latency, in ms.
+/// The greatest latency, and the greatest goal for one, in ms.
 pub const MAX_LATENCY: u64 = 1_000_000;
 
 /// The first number of a price that is above its limit.

@@ -3,7 +3,7 @@ ghost use Rattle.std.specs.Prelude.{nat_eq, replicate, map};
 ghost use Rattle.std.specs.Cmp.Lexicographic.{pointwise};
 ghost use Rattle.std.specs.List.{position};
 ghost use Rattle.span_base.specs.Name.{IsName};
-ghost use Rattle.price_tables.specs.Tables.{nothing_tabled, count_of, centre_at, number_of, link_at, with_centre, with_link, AreLinkedBefore, AreAllLinked, IsTabled};
+ghost use Rattle.price_tables.specs.Tables.{nothing_tabled, count_of, centre_at, number_of, link_at, link_between, with_centre, with_link, AreLinkedBefore, AreAllLinked, IsTabled};
 ghost use Rattle.price_tables.specs.Limits.{IsPriceWithin};
 ghost use Rattle.price_tables.specs.Kept.{AreUnderNames, centres_of};
 ghost use Rattle.price_tables.specs.Faults.{centre_fault, link_fault, IsDue};
@@ -19,7 +19,7 @@ use std::marker::Model;
 /// How many pairs of centres there can be.
 const PAIRS: usize = 256;
 
-/// The centres in the order in which they were named, and a fare for each link.
+/// The centres in the order in which they were named, numbered from 0, and a fare for each link.
 #[derive(Debug, Drop)]
 pub struct Tables {
     /// Each centre under its name.
@@ -41,7 +41,7 @@ impl Model for Tables {
 }
 
 impl Tables {
-    /// Tables of nothing.
+    /// Tables of no centre and no link.
     #[tactic(auto, using(crate::proofs::Keeping::nothing_kept))]
     pub fn make(alloc: Global) -> Result<Tables, AllocError>
         ensures { IfOk result (λ tables. tables ≡ nothing_tabled) }
@@ -52,7 +52,9 @@ impl Tables {
         })
     }
 
-    /// Adds a centre, and gives its number: how many there were before, at most 15.
+    /// Adds a centre, and gives its number: how many there were before, at most 15. Refused is a
+    /// price above 10^9, then a name that stands already, then a seventeenth centre; the tables
+    /// are then as before.
     pub fn add_dc(
         &mut self,
         alloc: Global,
@@ -111,7 +113,9 @@ impl Tables {
         Ok(DcId(number))
     }
 
-    /// Adds a link between two centres that were added.
+    /// Adds a link between two centres that were added. Refused is a fare above its limits, then an
+    /// unknown name, that of `from` first, then a pair that has a link already; the tables are then
+    /// as before.
     pub fn add_link(&mut self, from: &Word, to: &Word, fare: Fare) -> Result<(), TableFault>
         ensures ok { IfOk result (λ _. link_fault self.old from.now to.now fare ≡ None) }
         ensures added { OnOk result ((a b : ℕ) → number_of self.old from.now ≡ Some a → number_of self.old to.now ≡ Some b → self.new ≡ with_link self.old a b fare) }
@@ -156,6 +160,7 @@ impl Tables {
         self.centres.len() as u8
     }
 
+    /// The name of a centre.
     pub fn name(&self, dc: DcId) -> &Word
         requires { dc.0 < count_of self.now }
         ensures { result.now ≡ (centre_at self.now dc.0).name }
@@ -163,6 +168,7 @@ impl Tables {
         &self.centre(dc).name
     }
 
+    /// The name of the provider that runs a centre.
     pub fn provider(&self, dc: DcId) -> &Word
         requires { dc.0 < count_of self.now }
         ensures { result.now ≡ (centre_at self.now dc.0).provider }
@@ -170,6 +176,7 @@ impl Tables {
         &self.centre(dc).provider
     }
 
+    /// What a centre asks.
     pub fn price(&self, dc: DcId) -> DcPrice
         requires { dc.0 < count_of self.now }
         ensures { result ≡ (centre_at self.now dc.0).price }
@@ -184,8 +191,21 @@ impl Tables {
         &self.centres[dc.0 as usize]
     }
 
-    /// The fare of the link between two centres of any number.
+    /// The fare of the link from one centre to another, `None` where there is no link, or no such
+    /// centre.
     pub fn link(&self, from: DcId, to: DcId) -> Option<Fare>
+        ensures { result ≡ link_between self.now from.0 to.0 }
+    {
+        let count = self.count();
+        if from.0 < count && to.0 < count {
+            self.fare(from, to)
+        } else {
+            None
+        }
+    }
+
+    /// The fare of the link between two of the centres.
+    fn fare(&self, from: DcId, to: DcId) -> Option<Fare>
         requires from { from.0 < 16 }
         requires to { to.0 < 16 }
         ensures { result ≡ link_at self.now from.0 to.0 }
@@ -218,7 +238,7 @@ impl Tables {
         ensures none { IfNone result ((b : ℕ) → b < count_of self.now → IsSome (link_at self.now from.0 b)) }
     {
         for to in 0..self.count() {
-            if self.link(from, DcId(to)).is_none() {
+            if self.fare(from, DcId(to)).is_none() {
                 return Some(DcId(to));
             }
         }

@@ -1,5 +1,5 @@
 use crate::{DcPrice, Fare, Pair, TableFault, Tables};
-use span_base::{DcId, What, Word, read_name};
+use span_base::{DcId, Word, read_name};
 use std::alloc::{AllocError, Global};
 use std::test::Fail;
 
@@ -40,47 +40,13 @@ fn link(
 }
 
 #[test]
-fn centres_are_numbered_in_file_order(rt: HostRuntime) -> Result<(), Fail> {
-    let alloc = rt.alloc();
-    let mut tables = Tables::make(alloc)?;
-    assert_eq!(rt; add(alloc, &mut tables, "x", PRICE), Ok(DcId(0)));
-    assert_eq!(rt; add(alloc, &mut tables, "y", PRICE), Ok(DcId(1)));
-    assert_eq!(rt; add(alloc, &mut tables, "x", PRICE), Err(TableFault::Twice));
-    let dear = DcPrice {
-        get: 1_000_000_001,
-        ..PRICE
-    };
-    let limit = TableFault::Limit {
-        what: What::Price,
-        number: 1_000_000_001,
-    };
-    assert_eq!(rt; add(alloc, &mut tables, "x", dear), Err(limit));
-    assert_eq!(rt; tables.find(b"y".as_slice()), Some(DcId(1)));
-    assert_eq!(rt; tables.find(b"z".as_slice()), None);
-    assert_eq!(rt; tables.count(), 2);
-    Ok(())
-}
-
-#[test]
-fn links_are_found_and_missed(rt: HostRuntime) -> Result<(), Fail> {
+fn centres_are_numbered_and_linked(rt: HostRuntime) -> Result<(), Fail> {
     let alloc = rt.alloc();
     let mut tables = Tables::make(alloc)?;
     assert_eq!(rt; add(alloc, &mut tables, "x", PRICE), Ok(DcId(0)));
     assert_eq!(rt; add(alloc, &mut tables, "y", PRICE), Ok(DcId(1)));
     assert_eq!(rt; link(alloc, &mut tables, "x", "x", 1), Ok(()));
     assert_eq!(rt; link(alloc, &mut tables, "x", "y", 20), Ok(()));
-    assert_eq!(rt;
-        link(alloc, &mut tables, "x", "y", 30),
-        Err(TableFault::Twice)
-    );
-    assert_eq!(rt;
-        link(alloc, &mut tables, "z", "w", 1),
-        Err(TableFault::UnknownFrom)
-    );
-    assert_eq!(rt;
-        link(alloc, &mut tables, "y", "w", 1),
-        Err(TableFault::UnknownTo)
-    );
     let pair = Pair {
         from: DcId(1),
         to: DcId(0),

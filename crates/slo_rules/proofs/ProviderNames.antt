@@ -59,7 +59,7 @@ length_if added names true = omega arith
 length_if added names false = omega arith
 
 -- one centre more: a provider more, unless a later one lies with it too
-one_more : (w : Lists) (d : ℕ) (ds : List ℕ) → length (providers_of w (d ∷ ds)) ≡ cond (list_any (same_provider w d) ds) 0 1 + length (providers_of w ds)
+pub one_more : (w : Lists) (d : ℕ) (ds : List ℕ) → length (providers_of w (d ∷ ds)) ≡ cond (list_any (same_provider w d) ds) 0 1 + length (providers_of w ds)
 one_more w d ds =
     length_if (centre_of w d).provider (providers_of w ds) (list_any (same_list (centre_of w d).provider) (providers_of w ds))
     ∙ ap (λ (b : Bool). cond b 0 1 + length (providers_of w ds)) (any-providers_of w d ds)

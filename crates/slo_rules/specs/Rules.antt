@@ -1,3 +1,4 @@
+-- The rules that a policy of a set must keep.
 use Rattle.std.specs.Prelude.{◌≡◌, ℕ, ◌+◌, ◌*◌, Bool, true, false, ◌&&◌, List, [], ◌∷◌, ◌++◌, length, map, Option, Some, None, nat_le, nat_lt, nat_eq, ◌==◌, count_by, if◌then◌else◌}
 use Rattle.std.specs.List.{list_all, list_any, flat_map}
 use Rattle.std.specs.Cmp.Lexicographic.{pointwise}
@@ -7,6 +8,7 @@ use Rattle.span_base.specs.declared.policy.Near.{Near}
 use Rattle.span_base.specs.declared.policy.Hop.{Hop}
 use Rattle.span_base.specs.declared.policy.Quorum.{Quorum}
 use Rattle.span_base.specs.declared.dc_set.DcSet.{DcSet}
+use Rattle.span_base.specs.PolicyParts.{faults_of, replicas_of}
 use Rattle.span_base.specs.DcSet.{has, centres_of, meet, join, no_centre as no_dc}
 use Rattle.workload.specs.World.{Lists, centre_count, centre_of, latency_of, rule_of, members_of}
 use Rattle.workload.specs.declared.rules.SetRule.{SetRule}
@@ -61,21 +63,9 @@ mode_of (Direct f replicas primary) = mode.Direct
 mode_of (Relay f replicas primary parent) = mode.Relay
 mode_of (Strong f replicas members) = mode.Strong
 
--- how many failures a policy stands
-abbrev pub failures_of : Policy → ℕ
-failures_of (Direct f replicas primary) = f
-failures_of (Relay f replicas primary parent) = f
-failures_of (Strong f replicas members) = f
-
--- where a policy keeps replicas
-abbrev pub replicas_of : Policy → DcSet
-replicas_of (Direct f replicas primary) = replicas
-replicas_of (Relay f replicas primary parent) = replicas
-replicas_of (Strong f replicas members) = replicas
-
 -- the policy is of the set's mode and stands its number of failures
 abbrev pub has_mode : SetRule → Policy → Bool
-has_mode r p = (code_of (mode_of p) == code_of r.mode) && (failures_of p == r.f)
+has_mode r p = (code_of (mode_of p) == code_of r.mode) && (faults_of p == r.f)
 
 -- every centre of a set is one of the first `n`
 abbrev pub lies_below : ℕ → DcSet → Bool

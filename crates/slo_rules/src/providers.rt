@@ -3,10 +3,10 @@ ghost use Rattle.std.specs.Prelude.{◌≡◌, ◌+◌, ◌<◌, true, length};
 ghost use Rattle.std.specs.List.{list_any};
 ghost use Rattle.workload.specs.World.{centre_count};
 ghost use Rattle.slo_rules.specs.Centres.{centres_from};
-ghost use Rattle.slo_rules.specs.Rules.{breach_of_providers, providers_of, replicas_of, lies_below, same_provider};
+ghost use Rattle.slo_rules.specs.Rules.{breach_of_providers, providers_of, lies_below, same_provider};
 ghost use Rattle.span_base.specs.DcSet.{has, centres_of};
+ghost use Rattle.span_base.specs.PolicyParts.{replicas_of};
 
-use crate::replicas::replicas_of;
 use crate::rules::Rule;
 use span_base::{CENTRES, DcId, DcSet, Policy, SetId};
 use workload::World;
@@ -45,7 +45,7 @@ pub(crate) fn breach_of_providers(world: &World, set: SetId, policy: &Policy) ->
     requires below { lies_below (centre_count world.now) (replicas_of policy.now) ≡ true }
     ensures { result ≡ breach_of_providers world.now set.0 policy.now }
 {
-    if provider_count(world, replicas_of(policy)) >= world.rule(set).providers {
+    if provider_count(world, &policy.replicas()) >= world.rule(set).providers {
         None
     } else {
         Some(Rule::Providers)

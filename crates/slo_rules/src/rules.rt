@@ -39,12 +39,12 @@ pub enum Rule {
 fn has_mode(rule: &SetRule, policy: &Policy) -> bool
     ensures { result ≡ has_mode rule.now policy.now }
 {
-    let (mode, f) = match policy {
-        Policy::Direct { f, .. } => (Mode::Direct, *f),
-        Policy::Relay { f, .. } => (Mode::Relay, *f),
-        Policy::Strong { f, .. } => (Mode::Strong, *f),
+    let mode = match policy {
+        Policy::Direct { .. } => Mode::Direct,
+        Policy::Relay { .. } => Mode::Relay,
+        Policy::Strong { .. } => Mode::Strong,
     };
-    mode == rule.mode && f == rule.f
+    mode == rule.mode && policy.faults() == rule.f
 }
 
 /// The first rule of its mode that a policy of that mode and shape breaks.

@@ -5,9 +5,20 @@ ghost use Rattle.std.specs.Option.{option_map_or};
 ghost use Rattle.span_base.specs.DcSet.{centres_of};
 ghost use Rattle.slo_rules.specs.Rules.{has_shape, lies_below, primaries_below, primary_members, quorum_members, centres_asking, same_list, has_hops, hops_due, due_from};
 
-use crate::replicas::lies_below;
 use span_base::{CENTRES, DcId, DcSet, Hop, Near, Policy, Quorum, SetId};
 use workload::{Demand, World};
+
+/// Whether all centres of a set are among the first `n`.
+fn lies_below(n: u8, set: &DcSet) -> bool
+    ensures { result ≡ lies_below n set.now }
+{
+    for d in 0..CENTRES {
+        if set.has(DcId(d)) && d >= n {
+            return false;
+        }
+    }
+    true
+}
 
 /// Whether each primary is one of the first `n` centres.
 fn primaries_below(n: u8, primary: &[Near]) -> bool

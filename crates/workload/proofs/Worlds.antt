@@ -1,16 +1,17 @@
 -- Tables and sets without a gap make a complete world.
-use Rattle.std.proofs.Common.{get_or, cond, ◌&&◌, nat_lt, lt-ltb, zero, suc, ◌≡◌, ◌≢◌, ℕ, ◌+◌, ◌*◌, ◌<◌, ◌≤◌, List, [], ◌∷◌, ◌++◌, map, length, Option, Some, None, refl, sym, ap, ◌∙◌, subst, arith, All, slice_index_or}
+use Rattle.std.proofs.Common.{get_or, cond, ◌&&◌, nat_lt, true, false, inl, inr, zero, suc, ◌≡◌, ◌≢◌, ℕ, ◌+◌, ◌*◌, ◌<◌, ◌≤◌, List, [], ◌∷◌, ◌++◌, map, length, Option, Some, None, refl, sym, ap, ◌∙◌, subst, arith, All, slice_index_or}
 use Rattle.std.specs.List.{flat_map, range_with_len}
-use Rattle.std.proofs.lemmas.List.{length-append, get_or-append-add, get_or_append_left, get_or_default}
+use Rattle.std.proofs.lemmas.List.{length-append, get_or-append-add, get_or_append_left, get_or_default, get_or_past}
+use Rattle.std.proofs.lemmas.Bool.{and_parts, ltb-true, cases_lt, cases_Bool}
 use Rattle.std.proofs.lemmas.List.FromFn.{length-map-range_with_len, get_or-map-range_with_len}
 use Rattle.std.proofs.lemmas.List.Elements.{All-append, All-cons, All-nil}
 use Rattle.price_tables.specs.declared.prices.Fare.{Fare}
-use Rattle.price_tables.specs.Limits.{IsFareWithin}
-use Rattle.price_tables.specs.Tables.{Tabled, IsTabled, IsLinkWithin, AreAllLinked, count_of, link_at}
+use Rattle.price_tables.specs.Limits.{IsPriceWithin, IsFareWithin}
+use Rattle.price_tables.specs.Tables.{Tabled, IsTabled, IsLinkWithin, AreAllLinked, count_of, link_at, link_between, no_centre}
 use Rattle.workload.specs.declared.rules.Demand.{Demand}
 use Rattle.workload.specs.declared.rules.AccessSet.{AccessSet}
 use Rattle.workload.specs.Load.{AreLoaded, IsSetLoaded, set_at, no_set}
-use Rattle.workload.specs.World.{IsComplete, IsSetWithin, world_of, fare_or_none, no_fare, fare_of}
+use Rattle.workload.specs.World.{Lists, IsComplete, IsSetWithin, world_of, centre_count, price_of, fare_or_none, no_fare, fare_of}
 use Rattle.workload.specs.Gaps.{AreInCentres}
 
 -- rows of n items, laid end to end, have n items each
@@ -89,13 +90,44 @@ world_complete t sets tabled loaded linked some inside = record {
   sets = λ k d within. set-within (count_of t) (get_or sets k d) (loaded.each k d within) (has-members sets some k d within) (inside k d within);
 }
 
--- the fare of the world between two of its centres is the link's
-pub fare_is : (t : Tabled) (sets : List AccessSet) (from to : ℕ) → from < count_of t → to < count_of t
-    → fare_of (world_of t sets) from to ≡ fare_or_none (link_at t from to)
-fare_is t sets from to low within =
-    let here : 0 + from ≡ from = omega arith in
-    let fares = flat_map (λ a. map (λ b. fare_or_none (link_at t a b)) (range_with_len 0 (count_of t))) (range_with_len 0 (count_of t)) in
-    ap (λ b. cond (b && nat_lt to (count_of t)) (get_or fares (from * count_of t + to) no_fare) no_fare) (lt-ltb from (count_of t) low)
-    ∙ ap (λ b. cond b (get_or fares (from * count_of t + to) no_fare) no_fare) (lt-ltb to (count_of t) within)
-    ∙ get_or-rows (λ a b. fare_or_none (link_at t a b)) (count_of t) 0 (count_of t) from to no_fare low within
-    ∙ ap (λ a. fare_or_none (link_at t a to)) here
+-- the fare of the world between two centres is the link's
+pub fare_is : (t : Tabled) (sets : List AccessSet) (from to : ℕ) → fare_of (world_of t sets) from to ≡ fare_or_none (link_between t from to)
+fare_is t sets from to =
+    let n = count_of t in
+    let fares = flat_map (λ a. map (λ b. fare_or_none (link_at t a b)) (range_with_len 0 n)) (range_with_len 0 n) in
+    elim (cases_Bool (nat_lt from n && nat_lt to n)) [
+      | inl inside ↦
+          let parts = and_parts (nat_lt from n) (nat_lt to n) inside in
+          let here : 0 + from ≡ from = omega arith in
+          ap (λ b. cond b (get_or fares (from * n + to) no_fare) no_fare) inside
+          ∙ get_or-rows (λ a b. fare_or_none (link_at t a b)) n 0 n from to no_fare (ltb-true from n parts.0) (ltb-true to n parts.1)
+          ∙ ap (λ a. fare_or_none (link_at t a to)) here
+          ∙ sym (ap (λ b. fare_or_none (cond b (link_at t from to) None)) inside)
+      | inr outside ↦
+          ap (λ b. cond b (get_or fares (from * n + to) no_fare) no_fare) outside
+          ∙ sym (ap (λ b. fare_or_none (cond b (link_at t from to) None)) outside)
+    ]
+
+-- what a centre of any number asks is within the limits
+pub price_within : (w : Lists) → IsComplete w → (d : ℕ) → IsPriceWithin (price_of w d)
+price_within w complete d = elim (cases_lt d (centre_count w)) [
+  | inl low ↦ complete.prices d no_centre low
+  | inr past ↦ subst (λ c. IsPriceWithin c.price) (sym (get_or_past w.centres d no_centre past)) (record { store = omega arith; get = omega arith; put = omega arith })
+]
+
+no_fare_within : IsFareWithin no_fare
+no_fare_within = record { transfer = omega arith; latency = omega arith }
+
+listed_within : (w : Lists) → IsComplete w → (place : ℕ) → IsFareWithin (get_or w.fares place no_fare)
+listed_within w complete place = elim (cases_lt place (length w.fares)) [
+  | inl low ↦ complete.fares place no_fare low
+  | inr past ↦ subst IsFareWithin (sym (get_or_past w.fares place no_fare past)) no_fare_within
+]
+
+-- and so is the fare between centres of any two numbers
+pub fare_within : (w : Lists) → IsComplete w → (from to : ℕ) → IsFareWithin (fare_of w from to)
+fare_within w complete from to =
+    elim (nat_lt from (centre_count w) && nat_lt to (centre_count w)) as (λ b. IsFareWithin (cond b (get_or w.fares (from * centre_count w + to) no_fare) no_fare)) [
+      | true ↦ listed_within w complete (from * centre_count w + to)
+      | false ↦ no_fare_within
+    ]

@@ -10,6 +10,7 @@ pub enum LoadFault {
     Unknown,
     /// The name stands already, or the centre in this set.
     Twice,
+    /// There was no memory for the set or the demand.
     NoMemory(AllocError),
 }
 

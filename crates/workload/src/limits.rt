@@ -5,20 +5,19 @@ ghost use Rattle.workload.specs.Limits.{IsRuleWithin, AreCountsWithin};
 
 use crate::fault::LoadFault;
 use crate::rules::{Demand, SetRule};
+use price_tables::MAX_LATENCY;
 use span_base::What;
 
 /// The greatest number of failures that a set can stand.
-const MAX_FAILURES: u64 = 3;
-/// The greatest goal, in ms.
-const MAX_GOAL: u64 = 1_000_000;
+pub const MAX_FAILURES: u64 = 3;
 /// The greatest number of KiB stored.
-const MAX_STORED: u64 = 1_000_000_000_000;
+pub const MAX_STORED: u64 = 1_000_000_000_000;
 /// The greatest size of an object, in KiB.
-const MAX_OBJECT: u64 = 100_000;
-/// The greatest number of providers.
-const MAX_PROVIDERS: u64 = 16;
-/// The greatest count of gets or puts.
-const MAX_COUNT: u64 = 1_000_000_000;
+pub const MAX_OBJECT: u64 = 100_000;
+/// The greatest number of providers that a set asks for.
+pub const MAX_PROVIDERS: u64 = 16;
+/// The greatest count of gets or puts in a billing period.
+pub const MAX_COUNT: u64 = 1_000_000_000;
 
 /// The first number of a rule that is above its limit.
 pub(crate) fn rule_over(rule: &SetRule) -> Option<LoadFault>
@@ -29,10 +28,10 @@ pub(crate) fn rule_over(rule: &SetRule) -> Option<LoadFault>
     if let Some(fault) = over(What::F, MAX_FAILURES, u64::from(rule.f)) {
         return Some(fault);
     }
-    if let Some(fault) = over(What::Latency, MAX_GOAL, u64::from(rule.read_slo)) {
+    if let Some(fault) = over(What::Latency, MAX_LATENCY, u64::from(rule.read_slo)) {
         return Some(fault);
     }
-    if let Some(fault) = over(What::Latency, MAX_GOAL, u64::from(rule.write_slo)) {
+    if let Some(fault) = over(What::Latency, MAX_LATENCY, u64::from(rule.write_slo)) {
         return Some(fault);
     }
     if let Some(fault) = over(What::Stored, MAX_STORED, rule.stored) {

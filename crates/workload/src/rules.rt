@@ -31,6 +31,7 @@ impl Mode {
 /// What a set asks of its policy.
 #[derive(Clone, Copy, Debug, PartialEq, Eq)]
 pub struct SetRule {
+    /// How its replicas are written and read.
     pub mode: Mode,
     /// Failures to stand, at most 3.
     pub f: u8,
@@ -46,18 +47,23 @@ pub struct SetRule {
     pub providers: u8,
 }
 
-/// What one member of a set asks for in an epoch, at most 10^9 of each.
+/// What one member of a set asks for in a billing period.
 #[derive(Clone, Copy, Debug, PartialEq, Eq)]
 pub struct Demand {
+    /// The centre from which it reads and writes.
     pub dc: DcId,
+    /// How many objects it reads, at most 10^9.
     pub gets: u64,
+    /// How many it writes, at most 10^9.
     pub puts: u64,
 }
 
 /// A set of objects that the same centres access.
 #[derive(Debug, Drop)]
 pub struct AccessSet {
+    /// Its name, apart from those of the other sets.
     pub name: Word,
+    /// What it asks of its policy.
     pub rule: SetRule,
     /// In file order, 1 to 8, each in a centre of its own.
     pub members: Listed<Demand>,

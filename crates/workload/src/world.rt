@@ -8,14 +8,9 @@ ghost use Rattle.workload.specs.Gaps.{AreInCentres, HaveMembersBefore, IsFirstGa
 use crate::fault::Gap;
 use crate::load::Workload;
 use crate::rules::{Demand, SetRule};
-use price_tables::{DcPrice, Fare, Pair, Tables};
+use price_tables::{DcPrice, Fare, NO_FARE, NO_PRICE, Pair, Tables};
 use span_base::{DcId, SetId, Word};
 use std::marker::Model;
-
-const NO_FARE: Fare = Fare {
-    transfer: 0,
-    latency: 0,
-};
 
 /// Prices, latencies and workloads: centres and sets in file order, a fare for every ordered pair
 /// of centres, and 1 to 8 members in every set.
@@ -26,17 +21,19 @@ pub struct World {
 }
 
 impl Model for World {
+    ghost use Rattle.price_tables.specs.Tables.{AreAllLinked};
     ghost use Rattle.workload.specs.World.{Lists, IsComplete, world_of};
 
     ghost Value = { Lists };
 
     ghost view = { λ w. world_of w.tables w.load };
 
-    ghost invariant = { λ w. IsComplete (world_of w.tables w.load) };
+    ghost invariant = { λ w. AreAllLinked w.tables × IsComplete (world_of w.tables w.load) };
 }
 
 impl World {
-    /// The world of these tables and sets. It takes no memory; a refusal drops both.
+    /// The world of these tables and sets. Refused is the first pair of centres without a link,
+    /// then the first set without a member. It takes no memory; a refusal drops both.
     pub fn make(tables: Tables, load: Workload) -> Result<World, Gap>
         requires { AreInCentres (count_of tables) load }
         ensures world { IfOk result (λ world. world ≡ world_of tables load) }
@@ -63,6 +60,7 @@ impl World {
         self.tables.count()
     }
 
+    /// The name of a centre.
     pub fn name(&self, dc: DcId) -> &Word
         requires { dc.0 < centre_count self.now }
         ensures { result.now ≡ (centre_of self.now dc.0).name }
@@ -70,6 +68,7 @@ impl World {
         self.tables.name(dc)
     }
 
+    /// The name of the provider that runs a centre.
     pub fn provider(&self, dc: DcId) -> &Word
         requires { dc.0 < centre_count self.now }
         ensures { result.now ≡ (centre_of self.now dc.0).provider }
@@ -77,18 +76,24 @@ impl World {
         self.tables.provider(dc)
     }
 
+    /// What a centre asks: nothing where there is no such centre.
+    #[tactic(auto, using(crate::proofs::Worlds::price_within))]
     pub fn price(&self, dc: DcId) -> DcPrice
-        requires { dc.0 < centre_count self.now }
-        ensures { result ≡ price_of self.now dc.0 }
+        ensures price { result ≡ price_of self.now dc.0 }
+        ensures within { IsPriceWithin result }
     {
-        self.tables.price(dc)
+        if dc.0 < self.centre_count() {
+            self.tables.price(dc)
+        } else {
+            NO_PRICE
+        }
     }
 
-    #[tactic(auto, using(crate::proofs::Worlds::fare_is))]
+    /// What the link from one centre to another asks: nothing where one of them isn't in the world.
+    #[tactic(auto, using(crate::proofs::Worlds::fare_within))]
     pub fn fare(&self, from: DcId, to: DcId) -> Fare
-        requires from { from.0 < centre_count self.now }
-        requires to { to.0 < centre_count self.now }
-        ensures { result ≡ fare_of self.now from.0 to.0 }
+        ensures fare { result ≡ fare_of self.now from.0 to.0 }
+        ensures within { IsFareWithin result }
     {
         fare_or_none(self.tables.link(from, to))
     }
@@ -100,6 +105,7 @@ impl World {
         self.load.sets()
     }
 
+    /// The name of a set.
     pub fn set_name(&self, set: SetId) -> &Word
         requires { set.0 < length self.now.sets }
         ensures { result.now ≡ (set_of self.now set.0).name }
@@ -107,6 +113,7 @@ impl World {
         self.load.set_name(set)
     }
 
+    /// What a set asks of its policy.
     pub fn rule(&self, set: SetId) -> SetRule
         requires { set.0 < length self.now.sets }
         ensures rule { result ≡ rule_of self.now set.0 }
@@ -125,9 +132,10 @@ impl World {
         self.load.members(set)
     }
 
-    /// The centres with their links.
+    /// The centres with their links, of which none is missing.
     pub fn tables(&self) -> &Tables
-        ensures { world_of result.now self.now.sets ≡ self.now }
+        ensures world { world_of result.now self.now.sets ≡ self.now }
+        ensures linked { AreAllLinked result.now }
     {
         &self.tables
     }

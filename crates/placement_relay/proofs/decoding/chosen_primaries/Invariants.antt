@@ -1,5 +1,5 @@
 use Rattle.std.proofs.Common.{◌≡◌, map, take}
-use Rattle.placement_relay.specs.Direct.{numbered_members}
+use Rattle.placement_rows.specs.Centres.{numbered_members}
 use Rattle.placement_relay.specs.Placed.{chosen_primary}
 use Rattle.placement_relay.proofs.decoding.chosen_primaries.Given as goal
 

@@ -3,7 +3,8 @@ use Rattle.std.proofs.lemmas.List.Elements.{All-from_recursion}
 use Rattle.price_tables.specs.Limits.{IsPriceWithin, IsFareWithin}
 use Rattle.workload.specs.World.{IsComplete, IsSetWithin, IsDemandWithin, set_of, members_of}
 use Rattle.slo_rules.specs.Examples.{two_centres, fare}
-use Rattle.placement_relay.specs.Direct.{direct_program}
+use Rattle.placement_relay.specs.Programs.{set_program}
+use Rattle.span_base.specs.DcSet.{centres_of, centres_below}
 use Rattle.placement_relay.specs.Placed.{placed, decoded}
 use Rattle.placement_relay.proofs.laws.worked_two_centres.Goals as goal
 
@@ -33,10 +34,10 @@ complete = record {
 }
 
 pub returns-clause-set : goal.returns-clause-set
-returns-clause-set c = record { complete = complete; there = omega arith; mode = refl; one_provider = refl }
+returns-clause-set c = record { complete = complete; there = omega arith; mode = refl }
 
 pub returns-clause-program : goal.returns-clause-program
-unfolding direct_program
+unfolding set_program
 returns-clause-program c = refl
 
 pub returns-clause-at_x : goal.returns-clause-at_x
@@ -62,3 +63,18 @@ returns-clause-from_both c = refl
 pub returns-clause-least_read : goal.returns-clause-least_read
 unfolding decoded
 returns-clause-least_read c = refl
+
+pub returns-clause-two_providers : goal.returns-clause-two_providers
+unfolding set_program
+returns-clause-two_providers c = refl
+
+pub returns-clause-at_both_providers : goal.returns-clause-at_both_providers
+unfolding placed centres_of centres_below
+returns-clause-at_both_providers c = refl
+
+pub returns-clause-apart : goal.returns-clause-apart
+returns-clause-apart c = refl
+
+pub returns-clause-largest : goal.returns-clause-largest
+unfolding placed
+returns-clause-largest c = refl

@@ -1,7 +1,7 @@
 use Rattle.std.proofs.Common.{◌≡◌, ◌++◌, map, take}
 use Rattle.std.specs.Prelude.{◌==◌}
 use Rattle.std.specs.List.{flat_map}
-use Rattle.placement_relay.specs.Direct.{centres}
+use Rattle.placement_rows.specs.Centres.{centres}
 use Rattle.placement_relay.proofs.placing.push_primaries.Given as goal
 
 abbrev pub invariant-loop-near : goal.invariant-loop-near

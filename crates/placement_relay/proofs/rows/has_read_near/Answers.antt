@@ -2,8 +2,10 @@ use Rattle.std.proofs.Common.{◌≡◌, ◌+◌, ◌∙◌, pos, map}
 use Rattle.std.proofs.lemmas.Result.{IfOk-weaker}
 use Rattle.zero_one.specs.declared.rows.Row.{Row}
 use Rattle.workload.specs.World.{rule_of}
-use Rattle.placement_relay.specs.Direct.{plus, read_near, has_replicas}
-use Rattle.placement_relay.proofs.Loops.{near_row}
+use Rattle.placement_rows.specs.Rows.{plus}
+use Rattle.placement_rows.specs.Centres.{read_near}
+use Rattle.placement_relay.specs.Reading.{has_replicas}
+use Rattle.placement_relay.proofs.NearRows.{near_row}
 use Rattle.placement_relay.proofs.rows.has_read_near.Goals as goal
 
 pub returns : goal.returns

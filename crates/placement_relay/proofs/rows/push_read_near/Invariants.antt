@@ -1,6 +1,7 @@
 use Rattle.std.proofs.Common.{◌≡◌, ◌++◌, map, take}
 use Rattle.workload.specs.World.{members_of}
-use Rattle.placement_relay.specs.Direct.{read_near, has_replicas}
+use Rattle.placement_rows.specs.Centres.{read_near}
+use Rattle.placement_relay.specs.Reading.{has_replicas}
 use Rattle.placement_relay.proofs.rows.push_read_near.Given as goal
 
 abbrev pub invariant-loop-member : goal.invariant-loop-member

@@ -3,8 +3,9 @@ use Rattle.std.specs.List.{flat_map}
 use Rattle.std.proofs.lemmas.List.{take_all, append_assoc}
 use Rattle.std.proofs.lemmas.List.FromFn.{length-enumerate_from}
 use Rattle.workload.specs.World.{members_of}
-use Rattle.placement_relay.specs.Direct.{centres, numbered_members, reads_a_replica}
-use Rattle.placement_relay.proofs.Loops.{numbered_pieces_next}
+use Rattle.placement_rows.specs.Centres.{centres, numbered_members}
+use Rattle.placement_relay.specs.Reading.{reads_a_replica}
+use Rattle.placement_rows.proofs.Loops.{numbered_pieces_next}
 use Rattle.placement_relay.proofs.MetRows.{nobody}
 use Rattle.placement_relay.proofs.rows.push_reads_a_replica.Goals as goal
 

@@ -1,6 +1,7 @@
 use Rattle.std.proofs.Common.{◌≡◌, ◌++◌, map, take}
 use Rattle.std.specs.List.{flat_map}
-use Rattle.placement_relay.specs.Direct.{centres, numbered_members, reads_a_replica}
+use Rattle.placement_rows.specs.Centres.{centres, numbered_members}
+use Rattle.placement_relay.specs.Reading.{reads_a_replica}
 use Rattle.placement_relay.proofs.rows.push_reads_a_replica.Given as goal
 
 abbrev pub invariant-loop-a : goal.invariant-loop-a

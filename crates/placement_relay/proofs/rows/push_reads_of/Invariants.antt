@@ -1,6 +1,6 @@
 use Rattle.std.proofs.Common.{◌≡◌, ◌++◌, map}
 use Rattle.std.specs.List.{range_with_len}
-use Rattle.placement_relay.specs.Direct.{reads_a_replica}
+use Rattle.placement_relay.specs.Reading.{reads_a_replica}
 use Rattle.placement_relay.proofs.rows.push_reads_of.Given as goal
 
 abbrev pub invariant-loop-d : goal.invariant-loop-d

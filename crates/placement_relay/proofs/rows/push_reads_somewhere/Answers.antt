@@ -2,8 +2,9 @@ use Rattle.std.proofs.Common.{◌≡◌, ◌++◌, ◌<◌, ◌∙◌, sym, ap, 
 use Rattle.std.proofs.lemmas.List.{take_all, append_assoc}
 use Rattle.std.proofs.lemmas.List.FromFn.{length-enumerate_from}
 use Rattle.workload.specs.World.{members_of}
-use Rattle.placement_relay.specs.Direct.{numbered_members, reads_somewhere}
-use Rattle.placement_relay.proofs.Loops.{numbered_next}
+use Rattle.placement_rows.specs.Centres.{numbered_members}
+use Rattle.placement_relay.specs.Reading.{reads_somewhere}
+use Rattle.placement_rows.proofs.Loops.{numbered_next}
 use Rattle.placement_relay.proofs.MetRows.{nobody}
 use Rattle.placement_relay.proofs.rows.push_reads_somewhere.Goals as goal
 

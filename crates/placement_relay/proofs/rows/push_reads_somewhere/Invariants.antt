@@ -1,5 +1,6 @@
 use Rattle.std.proofs.Common.{◌≡◌, ◌++◌, map, take}
-use Rattle.placement_relay.specs.Direct.{numbered_members, reads_somewhere}
+use Rattle.placement_rows.specs.Centres.{numbered_members}
+use Rattle.placement_relay.specs.Reading.{reads_somewhere}
 use Rattle.placement_relay.proofs.rows.push_reads_somewhere.Given as goal
 
 abbrev pub invariant-loop-a : goal.invariant-loop-a

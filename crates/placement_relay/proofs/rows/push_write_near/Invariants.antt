@@ -1,6 +1,7 @@
 use Rattle.std.proofs.Common.{◌≡◌, ◌++◌, map, take}
 use Rattle.workload.specs.World.{members_of}
-use Rattle.placement_relay.specs.Direct.{write_near, has_replicas}
+use Rattle.placement_rows.specs.Centres.{write_near}
+use Rattle.placement_relay.specs.Reading.{has_replicas}
 use Rattle.placement_relay.proofs.rows.push_write_near.Given as goal
 
 abbrev pub invariant-loop-member : goal.invariant-loop-member

@@ -1,5 +1,5 @@
 use Rattle.std.proofs.Common.{◌≡◌, ◌+◌, map, take}
-use Rattle.placement_relay.specs.Direct.{plus}
+use Rattle.placement_rows.specs.Rows.{plus}
 use Rattle.placement_relay.proofs.rows.sum_row.Given as goal
 
 abbrev pub invariant-loop-d : goal.invariant-loop-d

@@ -1,12 +1,12 @@
 use Rattle.std.proofs.Common.{◌≡◌, ℕ, ◌+◌, ◌*◌, ◌^◌, ◌≤◌}
 use Rattle.std.specs.List.{sum_by}
 use Rattle.span_base.specs.DcSet.{centres_of}
-use Rattle.slo_rules.specs.Cost.{get_cost}
+use Rattle.slo_rules.specs.Cost.{gets_cost}
 use Rattle.slo_rules.specs.Centres.{centres_from}
 use Rattle.slo_rules.proofs.costs.read_set_cost.Given as goal
 
 abbrev pub invariant-loop-d : goal.invariant-loop-d
 invariant-loop-d l =
-    let f : ℕ → ℕ = λ dc. l.m.gets * get_cost l.world l.rule dc l.m.dc.0 in
+    let f : ℕ → ℕ = gets_cost l.world l.rule l.m in
     (l.total + sum_by f (centres_from l.set l.d) ≡ sum_by f (centres_of l.set))
     × (l.total ≤ l.d * 10 ^ 24)

@@ -3,4 +3,4 @@ use Rattle.workload.proofs.Worlds.{world_complete}
 use Rattle.workload.proofs.world.World.make.Goals as goal
 
 pub invariant_of-result : goal.invariant_of-result
-invariant_of-result c = search (rules, world_complete)
+invariant_of-result c = (search rules, search (rules, world_complete))

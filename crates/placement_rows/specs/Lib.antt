@@ -1,0 +1,3 @@
+pub mod Rows
+pub mod Centres
+pub mod Providers

@@ -1,0 +1,10 @@
+//! What the 0-1 programs of all modes share: their rows, and the part that asks for providers.
+#![tactic(auto)]
+
+mod providers;
+mod rows;
+
+pub use providers::{
+    provider_variables, push_provider_bits, push_provider_costs, push_provider_rows,
+};
+pub use rows::{backed_row, minus, plus};
