@@ -199,6 +199,19 @@ joined : (ss new : List AccessSet) (d : Demand) (o : Option ℕ) → sets.member
 joined ss new d None h made = absurd (cc h)
 joined ss new d (Some s) h made = made s refl
 
+-- the centres of the members of a set, one of those that there are or one past them
+members_in : (ys : List AccessSet) (k n : ℕ) → AreInCentres n ys → All (λ (x : Demand). x.dc.0 < n) (set_at ys k).members
+members_in ys k n h = ⊎_elim
+    (λ (low : k < length ys). All-get_or (λ (s : AccessSet). All (λ (x : Demand). x.dc.0 < n) s.members) ys k no_set low h)
+    (λ (past : length ys ≤ k). subst (λ (s : AccessSet). All (λ (x : Demand). x.dc.0 < n) s.members) (sym (get_or_past ys k no_set past)) (All-nil (λ (x : Demand). x.dc.0 < n)))
+    (cases_lt k (length ys))
+
+pub one_more_member : (xs : List AccessSet) (s : ℕ) (m : Demand) (n : ℕ) → m.dc.0 < n → AreInCentres n xs → AreInCentres n (with_demand xs s m)
+one_more_member xs s m n low all =
+    let P : Demand → Type 0 = λ x. x.dc.0 < n in
+    All-set (λ (set : AccessSet). All P set.members) xs s (with_member (set_at xs s) m)
+    (All-append P (set_at xs s).members (m ∷ []) (members_in xs s n all) (All-cons P m [] low (All-nil P))) all
+
 -- the sets with one more member, in one of the centres
 pub member_ok : (ss new : List AccessSet) (name : List ℕ) (d : Demand) (count : ℕ) → d.gets ≤ 10 ^ 9 → d.puts ≤ 10 ^ 9 → sets.demand_fault ss name d ≡ None
     → ((s : ℕ) → set_number ss name ≡ Some s → new ≡ with_demand ss s d)
@@ -209,20 +222,8 @@ member_ok ss new name d count gets puts h made low all =
     let none : sets.member_fault_of ss (set_number ss name) d.dc.0 ≡ None = sym (demand_over d _ gets puts) ∙ h in
     let is : new ≡ with_demand ss s d = joined ss new d (set_number ss name) none made in (
       member_is ss name d gets puts ∙ load_ok (sets.demand_fault ss name d) _ h ∙ ap Ok (sym is),
-      subst (AreInCentres count) (sym is) (with_member_in ss s d count low all),
+      subst (AreInCentres count) (sym is) (one_more_member ss s d count low all),
     )
-  where
-    with_member_in : (xs : List AccessSet) (s : ℕ) (m : Demand) (n : ℕ) → m.dc.0 < n → AreInCentres n xs → AreInCentres n (with_demand xs s m)
-    with_member_in xs s m n low all = put (members_in xs s n all)
-      where
-        members_in : (ys : List AccessSet) (k : ℕ) (n' : ℕ) → AreInCentres n' ys → All (λ (x : Demand). x.dc.0 < n') (set_at ys k).members
-        members_in ys k n' h = ⊎_elim
-            (λ (low' : k < length ys). All-get_or (λ (s : AccessSet). All (λ (x : Demand). x.dc.0 < n') s.members) ys k no_set low' h)
-            (λ (past : length ys ≤ k). subst (λ (s : AccessSet). All (λ (x : Demand). x.dc.0 < n') s.members) (sym (get_or_past ys k no_set past)) (All-nil (λ (x : Demand). x.dc.0 < n')))
-            (cases_lt k (length ys))
-
-        put : All (λ (x : Demand). x.dc.0 < n) (set_at xs s).members → AreInCentres n (with_demand xs s m)
-        put h = All-set (λ (set : AccessSet). All (λ (x : Demand). x.dc.0 < n) set.members) xs s (with_member (set_at xs s) m) (All-append (λ (x : Demand). x.dc.0 < n) (set_at xs s).members (m ∷ []) h (All-cons (λ (x : Demand). x.dc.0 < n) m [] low (All-nil (λ (x : Demand). x.dc.0 < n)))) all
 
 pub one_more_set : (n : ℕ) (ss : List AccessSet) (name : List ℕ) (rule : SetRule) → AreInCentres n ss → AreInCentres n (with_set ss name rule)
 one_more_set n ss name rule all = All-append (λ (s : AccessSet). All (λ (x : Demand). x.dc.0 < n) s.members) ss _ all

@@ -26,3 +26,7 @@ pub mod Readings
 pub mod Members
 pub mod Filling
 pub mod Documents
+pub mod DocumentRead
+pub mod WithinLimits
+pub mod InOrder
+pub mod SaidWorlds

@@ -6,6 +6,7 @@ pub mod Added
 pub mod Judged
 pub mod ReadWorld
 pub mod Toml
+pub mod Document
 pub mod Taken
 pub mod Worked
 pub mod Written

@@ -12,11 +12,13 @@ use workload::{Gap, LoadFault};
 /// shows stands one line after the last record.
 #[derive(Debug, Drop, PartialEq, Eq, Error)]
 pub enum WorldFault {
+    /// The record at this line, or at line 0 the whole text, is refused for this cause.
     #[error("line {line}: {}", .cause.word())]
     Bad { line: u64, cause: Cause },
-    /// This number passes its limit.
+    /// In the record at this line this number passes the limit on what is named.
     #[error("line {line}: {number} passes the limit on {}", .what.word())]
     Limit { line: u64, what: What, number: u128 },
+    /// There was no memory.
     #[error("out of memory")]
     NoMemory(AllocError),
 }

@@ -9,12 +9,11 @@ ghost use Rattle.world_text.specs.Spelled.{name_of, number_up_to, providers_of, 
 
 use crate::fault::{Fault, Refusal, bad};
 use crate::kinds::mode_of;
-use crate::limits::{COUNT, FAILURES, LATENCY, OBJECT, PRICE, PROVIDERS, STORED};
-use price_tables::{DcPrice, Fare};
+use price_tables::{DcPrice, Fare, MAX_LATENCY, MAX_PRICE};
 use span_base::{Cause, NumberFault, What, Word, read_name, read_number};
 use std::alloc::Global;
 use std::str;
-use workload::SetRule;
+use workload::{MAX_COUNT, MAX_FAILURES, MAX_OBJECT, MAX_PROVIDERS, MAX_STORED, SetRule};
 
 /// The text as a name.
 #[tactic(auto, unfolding(crate::specs::Spelled::name_of))]
@@ -51,7 +50,7 @@ fn providers_of(text: &[u8]) -> Result<u64, Fault>
     ensures some { IfOk result (λ n. 1 ≤ n) }
     ensures within { IfOk result (λ n. n ≤ 16) }
 {
-    let number = number_up_to(PROVIDERS, What::Providers, text)?;
+    let number = number_up_to(MAX_PROVIDERS, What::Providers, text)?;
     if number == 0 {
         return Err(Fault::Bad(Cause::Number));
     }
@@ -65,9 +64,9 @@ pub(crate) fn price_of(store: &[u8], get: &[u8], put: &[u8]) -> Result<DcPrice, 
     ensures within { IfOk result (λ price. IsPriceWithin price) }
 {
     Ok(DcPrice {
-        store: number_up_to(PRICE, What::Price, store)?,
-        get: number_up_to(PRICE, What::Price, get)?,
-        put: number_up_to(PRICE, What::Price, put)?,
+        store: number_up_to(MAX_PRICE, What::Price, store)?,
+        get: number_up_to(MAX_PRICE, What::Price, get)?,
+        put: number_up_to(MAX_PRICE, What::Price, put)?,
     })
 }
 
@@ -78,8 +77,8 @@ pub(crate) fn fare_of(transfer: &[u8], latency: &[u8]) -> Result<Fare, Fault>
     ensures within { IfOk result (λ fare. IsFareWithin fare) }
 {
     Ok(Fare {
-        transfer: number_up_to(PRICE, What::Price, transfer)?,
-        latency: number_up_to(LATENCY, What::Latency, latency)? as u32,
+        transfer: number_up_to(MAX_PRICE, What::Price, transfer)?,
+        latency: number_up_to(MAX_LATENCY, What::Latency, latency)? as u32,
     })
 }
 
@@ -99,11 +98,11 @@ pub(crate) fn rule_of(
 {
     Ok(SetRule {
         mode: mode_of(mode)?,
-        f: number_up_to(FAILURES, What::F, f)? as u8,
-        read_slo: number_up_to(LATENCY, What::Latency, read_slo)? as u32,
-        write_slo: number_up_to(LATENCY, What::Latency, write_slo)? as u32,
-        stored: number_up_to(STORED, What::Stored, stored)?,
-        object: number_up_to(OBJECT, What::Object, object)?,
+        f: number_up_to(MAX_FAILURES, What::F, f)? as u8,
+        read_slo: number_up_to(MAX_LATENCY, What::Latency, read_slo)? as u32,
+        write_slo: number_up_to(MAX_LATENCY, What::Latency, write_slo)? as u32,
+        stored: number_up_to(MAX_STORED, What::Stored, stored)?,
+        object: number_up_to(MAX_OBJECT, What::Object, object)?,
         providers: providers_of(providers)? as u8,
     })
 }
@@ -115,7 +114,7 @@ pub(crate) fn counts_of(gets: &[u8], puts: &[u8]) -> Result<(u64, u64), Fault>
     ensures gets { IfOk result (λ counts. counts.0 ≤ 1_000_000_000) }
     ensures puts { IfOk result (λ counts. counts.1 ≤ 1_000_000_000) }
 {
-    let gets = number_up_to(COUNT, What::Count, gets)?;
-    let puts = number_up_to(COUNT, What::Count, puts)?;
+    let gets = number_up_to(MAX_COUNT, What::Count, gets)?;
+    let puts = number_up_to(MAX_COUNT, What::Count, puts)?;
     Ok((gets, puts))
 }

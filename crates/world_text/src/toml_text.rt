@@ -30,7 +30,7 @@ pub fn read_toml(alloc: Global, text: &[u8]) -> Result<World, WorldFault>
 }
 
 /// The document of a text.
-fn document_of(alloc: Global, text: &[u8]) -> Result<Table, WorldFault>
+pub(crate) fn document_of(alloc: Global, text: &[u8]) -> Result<Table, WorldFault>
     ensures document { IfOk result (λ document. toml_says text.now ≡ document_says (Some (table_view document))) }
     ensures fault { IfErr result (λ e. Reads (toml_says text.now) (Err e)) }
 {
