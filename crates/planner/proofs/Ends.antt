@@ -1,10 +1,9 @@
 -- The leaves of a plain tree close: `l 1` at a feasible assignment, and a broken row at any other.
-use Rattle.std.proofs.Common.{◌≡◌, ℕ, zero, suc, ◌<◌, ◌≤◌, Bool, true, false, List, [], ◌∷◌, length, Option, Some, None, refl, sym, subst, ◌∙◌, inl, inr, arith}
+use Rattle.std.proofs.Common.{◌≡◌, ◌^◌, ℕ, zero, suc, ◌<◌, ◌≤◌, Bool, true, false, List, [], ◌∷◌, length, Option, Some, None, refl, sym, subst, ◌∙◌, inl, inr, arith}
 use Rattle.std.specs.Prelude.{ℤ, pos, ◌<ℤ◌, ◌≤ℤ◌}
 use Rattle.std.specs.List.{All}
 use Rattle.std.specs.Int.Signed.{lt_z, lt_z_yes, lt_z_no}
 use Rattle.std.proofs.lemmas.Int.{ints}
-use Rattle.bound_cert.specs.declared.leaves.TheConstants.{MAX_MULTIPLIER}
 use Rattle.zero_one.specs.Contents.{Contents}
 use Rattle.zero_one.specs.Rows.{bit_of, fixed_bit, row_sum, Meets}
 use Rattle.zero_one.specs.Program.{IsWithinLimits, value_of}
@@ -69,7 +68,7 @@ one_leaf_fits program = record {
 row_leaf_fits : (program : Contents) (row : ℕ) → row < length program.rows → LeafFits program (row_leaf row)
 row_leaf_fits program row there = record {
   scale = omega arith;
-  multipliers = once (λ (p : Pair). (1 ≤ p.mult) × (p.mult ≤ MAX_MULTIPLIER)) _ (omega arith, omega arith);
+  multipliers = once (λ (p : Pair). (1 ≤ p.mult) × (p.mult ≤ 10 ^ 30)) _ (omega arith, omega arith);
   rising = λ k below. absurd (omega arith);
   existing = once (λ (p : Pair). p.row < length program.rows) _ there;
 }

@@ -1,7 +1,9 @@
-use Rattle.std.specs.Prelude.{◌≡◌, ℕ, ◌<◌, ◌++◌, List, length, Some, slice_get, true, false}
+use Rattle.std.specs.Prelude.{◌≡◌, ℕ, ◌<◌, ◌++◌, List, length, Option, Some, None, slice_get, true, false}
 use Rattle.bound_cert.specs.declared.leaves.Goal.{Goal}
 use Rattle.bound_cert.specs.declared.leaves.Goal.TheVariants.{Cost, Nothing}
+use Rattle.bound_cert.specs.declared.leaves.Line.{Line}
 use Rattle.bound_cert.specs.Trees.{IsProof}
+use Rattle.zero_one.specs.Contents.{Contents}
 use Rattle.workload.specs.World.{Lists}
 use Rattle.slo_rules.specs.Rules.{IsAllowed}
 use Rattle.slo_rules.specs.Cost.{policy_cost, IsLeast, HasNoPolicy}
@@ -18,9 +20,14 @@ abbrev pub FitsSet : Lists → ℕ → Ending → Type 0
 FitsSet w set (complete cost policy) = IsAllowed w set policy × (policy_cost w set policy ≡ cost)
 FitsSet w set none_allowed = Unit {0}
 
--- a part is accepted for a set: its lines are a proof of what its ending says
+-- lines are a proof of a goal for a program, where there is one
+abbrev pub IsShown : Option Contents → List Line → Goal → Type 0
+IsShown (Some program) lines goal = IsProof program lines goal
+IsShown None lines goal = ⊥
+
+-- a part is accepted for a set: its lines are a proof of what its ending says, for the set's program
 pub record IsAcceptedPart (w : Lists) (set : ℕ) (part : Part) : Type 0 where
-  pub shown : IsProof (program_of w set) part.lines (goal_of part.ending)
+  pub shown : IsShown (program_of w set) part.lines (goal_of part.ending)
   pub ending : FitsSet w set part.ending
 
 -- a fact holds of each part and the number of its set

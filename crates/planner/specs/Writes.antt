@@ -3,22 +3,21 @@ use Rattle.std.specs.Prelude.{◌≡◌, ℕ, ◌<◌, ◌≤◌, ◌⊎◌, ◌
 use Rattle.span_base.specs.Taken.{Appends}
 use Rattle.span_base.specs.declared.ids.SetId.{SetId}
 use Rattle.workload.specs.World.{Lists}
-use Rattle.placement_relay.specs.Direct.{direct_costs}
+use Rattle.placement_relay.specs.Programs.{set_costs}
 use Rattle.placement_relay.specs.Laws.{IsDirectSet}
 use Rattle.planner.specs.Parts.{Part, completes}
 use Rattle.planner.specs.PlanText.{part_text}
 use Rattle.planner.specs.Plans.{IsLeastPlan, IsPlanWithout, IsPlanFront, IsAcceptedPart, IsTrueOf}
-use Rattle.planner.specs.declared.plan.TheConstants.{MOST_VARIABLES}
 use Rattle.planner.specs.declared.plan.PlanEnd.{PlanEnd}
 use Rattle.planner.specs.declared.plan.PlanEnd.TheVariants.{Complete, NoPolicy}
 use Rattle.planner.specs.declared.plan.PlanFault.{PlanFault}
 use Rattle.planner.specs.declared.plan.PlanFault.TheVariants.{WriteFault, NoMemory}
 
--- a set is direct, asks for one provider, and has a program that is searched whole
+-- a set is direct, and has a program of at most 12 variables
 abbrev pub IsServedSet : Lists → ℕ → Type 0
-IsServedSet w set = IsDirectSet w set × (length (direct_costs w set) ≤ MOST_VARIABLES)
+IsServedSet w set = IsDirectSet w set × (length (set_costs w set) ≤ 12)
 
--- every set of a world is direct, asks for one provider, and has a program that is searched whole
+-- every set of a world is direct, and has a program of at most 12 variables
 abbrev pub IsServed : Lists → Type 0
 IsServed w = (set : ℕ) → set < length w.sets → IsServedSet w set
 

@@ -6,4 +6,4 @@ mod plan;
 mod search;
 mod text;
 
-pub use plan::{MOST_VARIABLES, PlanEnd, PlanFault, is_served, plan_all};
+pub use plan::{PlanEnd, PlanFault, is_served, plan_all};

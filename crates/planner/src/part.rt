@@ -6,7 +6,7 @@ ghost use Rattle.placement_relay.specs.Laws.{IsDirectSet};
 ghost use Rattle.planner.specs.Writes.{IsServedSet, AddsPart};
 
 use crate::search::{Found, search};
-use crate::text::{write_cost, write_primaries, write_replicas, write_set, write_tree};
+use crate::text::{write_cost, write_none, write_primaries, write_replicas, write_set, write_tree};
 use placement_relay::{decode, encode, least_choices_are_least_policies, no_choice_is_no_policy};
 use span_base::{Policy, SetId};
 use std::alloc::{AllocError, Global};
@@ -36,7 +36,7 @@ pub fn write_part(
             Ok(true)
         }
         None => {
-            write!(text, "result none\n")?;
+            write_none(text)?;
             Ok(false)
         }
     }

@@ -3,27 +3,30 @@ ghost use Rattle.span_base.specs.Counts.{Rose};
 ghost use Rattle.planner.specs.Writes.{IsServed, IsServedSet, IsPlanText, PlanWrites, first_end};
 
 use crate::part::write_part;
+use crate::text::{write_begin, write_end};
 use placement_relay::{is_direct_set, variable_count};
 use span_base::{DeviceFault, SetId, Sink, write_all};
 use std::alloc::{AllocError, Global};
 use workload::World;
 
 /// The greatest number of variables of a program that is searched whole.
-pub const MOST_VARIABLES: usize = 12;
+const MOST_VARIABLES: usize = 12;
 
 /// How planning a world ends.
 #[derive(Clone, Copy, Debug, PartialEq, Eq)]
 pub enum PlanEnd {
-    /// Every set has its least policy.
+    /// The plan is written, and every set has its least policy.
     Complete,
-    /// This is the first set of which no policy is allowed.
+    /// The plan is written, and this is the first set of which no policy is allowed.
     NoPolicy { set: SetId },
 }
 
 /// Why a plan isn't written whole.
 #[derive(Clone, Copy, Debug, PartialEq, Eq)]
 pub enum PlanFault {
+    /// The sink failed; it has taken a front of the plan.
     WriteFault,
+    /// There was no memory; nothing was written, or a front of the plan.
     NoMemory,
 }
 
@@ -34,8 +37,8 @@ struct Plan {
     end: PlanEnd,
 }
 
-/// Whether `plan_all` serves a world: each set is direct, asks for one provider, and has at most
-/// 12 variables.
+/// Whether `plan_all` serves a world: each set is direct, and has a program of at most 12
+/// variables.
 pub fn is_served(world: &World) -> bool
     ensures { IsTrue result ↔ IsServed world.now }
 {
@@ -77,14 +80,14 @@ fn plan_text(alloc: Global, world: &World) -> Result<Plan, AllocError>
     ensures { IfOk result (λ plan. IsPlanText world.now (string_bytes plan.text) plan.end) }
 {
     let mut text = String::new(alloc);
-    write!(text, "span-plan 1\n")?;
+    write_begin(&mut text)?;
     let mut end = PlanEnd::Complete;
     for number in 0..world.sets() {
         let set = SetId(number);
         let is_complete = write_part(alloc, &mut text, world, set)?;
         end = end_with(end, set, is_complete);
     }
-    write!(text, "end\n")?;
+    write_end(&mut text)?;
     Ok(Plan { text, end })
 }
 

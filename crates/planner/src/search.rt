@@ -3,7 +3,6 @@ ghost use Rattle.zero_one.specs.Program.{IsWithinLimits};
 ghost use Rattle.planner.specs.Search.{AddsPlain, IsSound, StaysGood, NoneBetter, IsBetter, goal_of_best};
 ghost use Rattle.bound_cert.specs.Trees.{IsProof};
 
-use crate::plan::MOST_VARIABLES;
 use bound_cert::{Leaf, Line, Pair};
 use span_base::Listed;
 use std::alloc::{AllocError, Global};
@@ -26,7 +25,7 @@ pub struct Found {
 
 /// Looks at every assignment of a program of at most 12 variables.
 pub fn search(alloc: Global, program: &Program) -> Result<Found, AllocError>
-    requires { length program.now.costs ≤ MOST_VARIABLES }
+    requires { length program.now.costs ≤ 12 }
     ensures sound { IfOk result (λ found. IsSound program.now found.best) }
     ensures least { IfOk result (λ found. NoneBetter program.now [] found.best) }
     ensures proof { IfOk result (λ found. IsProof program.now found.lines.items (goal_of_best found.best)) }

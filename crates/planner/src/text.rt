@@ -1,4 +1,4 @@
-ghost use Rattle.std.specs.Prelude.{◌≡◌, ◌++◌, ◌<◌, length, true, All, OnOk, string_bytes};
+ghost use Rattle.std.specs.Prelude.{◌≡◌, ◌++◌, ◌<◌, codes, length, true, All, OnOk, string_bytes};
 ghost use Rattle.std.specs.List.{flat_map};
 ghost use Rattle.workload.specs.World.{centre_count};
 ghost use Rattle.slo_rules.specs.Rules.{lies_below};
@@ -9,6 +9,20 @@ use bound_cert::{Line, push_line};
 use span_base::{CENTRES, DcId, DcSet, Near, SetId};
 use std::alloc::AllocError;
 use workload::World;
+
+/// Adds the first line of a plan.
+pub fn write_begin(text: &mut String) -> Result<(), AllocError>
+    ensures { OnOk result (string_bytes text.new ≡ string_bytes text.old ++ codes "span-plan 1\n") }
+{
+    write!(text, "span-plan 1\n")
+}
+
+/// Adds the last line of a plan.
+pub fn write_end(text: &mut String) -> Result<(), AllocError>
+    ensures { OnOk result (string_bytes text.new ≡ string_bytes text.old ++ codes "end\n") }
+{
+    write!(text, "end\n")
+}
 
 /// Adds the names of a set's centres, each behind a space.
 fn write_names(text: &mut String, world: &World, set: DcSet) -> Result<(), AllocError>
@@ -85,6 +99,13 @@ pub fn write_cost(text: &mut String, cost: u128) -> Result<(), AllocError>
     ensures { OnOk result (string_bytes text.new ≡ string_bytes text.old ++ cost_line cost) }
 {
     write!(text, "result complete {cost}\n")
+}
+
+/// Adds the line of a result that has no policy.
+pub fn write_none(text: &mut String) -> Result<(), AllocError>
+    ensures { OnOk result (string_bytes text.new ≡ string_bytes text.old ++ codes "result none\n") }
+{
+    write!(text, "result none\n")
 }
 
 /// Adds the lines of the members' primaries.

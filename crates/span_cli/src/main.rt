@@ -1,13 +1,19 @@
 //! The program `span`: its arguments, the files that it reads and its output are the system's.
 #![tactic(auto)]
 
+ghost use Rattle.std.specs.Prelude.{◌≡◌};
+ghost use Rattle.std.specs.Process.{exit_status};
+ghost use Rattle.span_top.specs.Codes.{code_of};
+ghost use Rattle.span_top.specs.Spans.{RunEnds};
+
 mod file_shelf;
 mod std_sink;
 mod words;
 
 use file_shelf::FileShelf;
-use span_top::{Status, span};
-use std::io;
+use span_base::Word;
+use span_top::{Status, explain, span};
+use std::io::{self, IsTerminal};
 use std::process::ExitCode;
 use std_sink::StdSink;
 use words::{Request, read_request};
@@ -28,30 +34,46 @@ A world is read as TOML where the file's name ends in .toml, else as CSV.
 The exit status is 0 where the plan is complete. Any other is told on standard error.
 ";
 
-fn main(rt: HostRuntime) -> io::Result<ExitCode> {
-    match read_request(&rt)? {
-        Request::Help => {
-            print!(rt; "{HELP}")?;
-            Ok(ExitCode::from(0))
-        }
-        Request::Version => {
-            println!(rt; "span {VERSION}")?;
-            Ok(ExitCode::from(0))
-        }
-        Request::NotText => end(&rt, &Status::Usage),
-        Request::Words(words) => {
-            let mut shelf = FileShelf::new(&rt);
-            let mut out = StdSink::new(io::writer(&rt));
-            let status = span(rt.alloc(), words.as_slice(), &mut shelf, &mut out);
-            end(&rt, &status)
-        }
+fn main(rt: HostRuntime) -> ExitCode {
+    match read_request(&rt) {
+        Ok(Request::Help) => end_written(&rt, print!(rt; "{HELP}")),
+        Ok(Request::Version) => end_written(&rt, println!(rt; "span {VERSION}")),
+        Ok(Request::NotText) => end(&rt, &Status::Usage),
+        Ok(Request::Words(words)) => run(&rt, words.as_slice()),
+        // Nothing but memory can be wanting.
+        Err(_) => end(&rt, &Status::NoMemory),
     }
 }
 
-// Tells a status other than Done on standard error, and ends with its number.
-fn end(rt: &impl Eprint, status: &Status) -> io::Result<ExitCode> {
-    if !matches!(status, Status::Done) {
-        eprintln!(rt; "span: {status}")?;
+// Does what the words ask, and ends with the number of the status that the top call answers.
+fn run(rt: &HostRuntime, words: &[Word]) -> ExitCode
+    ensures { RunEnds words.now (exit_status result) }
+{
+    let mut shelf = FileShelf::new(rt);
+    let mut out = StdSink::new(io::writer(rt));
+    let status = span(rt.alloc(), words, &mut shelf, &mut out);
+    let code = end(rt, &status);
+    if !matches!(status, Status::Done) && rt.stderr().is_terminal() {
+        if let Ok(text) = explain(rt.alloc(), words, &mut shelf, &status) {
+            let _ = eprintln!(rt; "{text}");
+        }
     }
-    Ok(ExitCode::from(status.code()))
+    code
+}
+
+// Ends after a text of the program's own was written, or wasn't.
+fn end_written(rt: &impl Eprint, written: io::Result<()>) -> ExitCode {
+    match written {
+        Ok(()) => end(rt, &Status::Done),
+        Err(_) => end(rt, &Status::WriteFault),
+    }
+}
+
+// Tells a status on standard error, and ends with its number, also where it can't be told.
+fn end(rt: &impl Eprint, status: &Status) -> ExitCode
+    ensures { exit_status result ≡ code_of status.now }
+{
+    let line = status.line();
+    let _ = eprint!(rt; "{line}");
+    ExitCode::from(status.code())
 }

@@ -6,14 +6,17 @@ use std::{env, io};
 /// What the arguments ask for.
 #[derive(Debug, Drop)]
 pub enum Request {
+    /// `--help` alone.
     Help,
+    /// `--version` alone.
     Version,
     /// Some argument isn't UTF-8.
     NotText,
+    /// The words of a command, or of none.
     Words(Vec<Word>),
 }
 
-/// The request of the arguments after the program's name.
+/// The request of the arguments after the program's name. It fails where there is no memory for them.
 pub fn read_request<R: Env + Alloc<A = Global>>(rt: &R) -> io::Result<Request> {
     let mut words = Vec::new(rt.alloc());
     let args = match env::args(rt) {

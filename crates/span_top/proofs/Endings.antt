@@ -1,21 +1,23 @@
 -- How reading a file and planning its world make the endings of `plan`.
-use Rattle.std.proofs.Common.{◌≡◌, ℕ, ◌+◌, ◌<◌, ◌≤◌, ◌⊎◌, inl, inr, List, length, Option, Some, None, Result, Ok, Err, refl, sym, ap, subst, arith}
+use Rattle.std.proofs.Common.{◌≡◌, Bool, true, false, ℕ, ◌+◌, ◌<◌, ◌≤◌, ◌⊎◌, inl, inr, List, length, Option, Some, None, Result, Ok, Err, refl, sym, ap, subst, arith}
+use Rattle.std.specs.Prelude.{if◌then◌else◌}
 use Rattle.std.specs.List.{range_with_len}
 use Rattle.std.proofs.lemmas.List.FromFn.{length-range_with_len}
 use Rattle.span_base.specs.Files.{Files, file_of}
 use Rattle.span_base.specs.Whole.{ReadsWhole, ReadsWholeFile}
 use Rattle.span_base.specs.declared.reading.FileFault.TheVariants as fault
-use Rattle.workload.specs.World.{Lists}
+use Rattle.workload.specs.World.{Lists, IsComplete, IsNamed}
 use Rattle.span_base.specs.declared.words.Cause.{Cause}
 use Rattle.span_base.specs.declared.words.What.{What}
-use Rattle.world_text.specs.ReadWorld.{LineFault, refused_for, refused_above}
+use Rattle.world_text.specs.ReadWorld.{LineFault, csv_says, refused_for, refused_above}
+use Rattle.world_text.specs.Toml.{toml_says}
+use Rattle.world_text.proofs.SaidWorlds.{csv_whole, toml_whole}
 use Rattle.planner.specs.Plans.{IsLeastPlan, IsPlanWithout, IsPlanFront}
 use Rattle.planner.specs.Writes.{IsServed, TakesText}
 use Rattle.span_base.specs.declared.ids.SetId.{SetId}
-use Rattle.span_top.specs.declared.plan_command.TheConstants.{WORLD_BYTES}
 use Rattle.span_top.specs.declared.status.Status.{Status}
 use Rattle.span_top.specs.declared.status.Status.TheVariants as status
-use Rattle.span_top.specs.Planned.{Holds, Lacks, IsTooLong, FileSays, PlanEnds, PlansWorld, BytesEnd, WorldEnds, world_says}
+use Rattle.span_top.specs.Planned.{Holds, Lacks, IsTooLong, FileSays, PlanEnds, PlansWorld, BytesEnd, WorldEnds, names_toml, world_says}
 
 held_file : (found : Option (List ℕ)) (limit : ℕ) (bytes : List ℕ) → ReadsWholeFile found limit (Ok bytes) → found ≡ Some bytes
 held_file None limit bytes h = absurd h
@@ -43,14 +45,24 @@ long_list : (limit : ℕ) → (bytes : List ℕ) × (limit < length bytes)
 long_list limit = (range_with_len 0 (limit + 1), omega (arith, length-range_with_len 0 (limit + 1)))
 
 -- a file that is too large has more bytes than the limit
-pub read_too_long : (files : Option Files) (name : List ℕ) → ReadsWhole files name WORLD_BYTES (Err fault.TooLarge) → IsTooLong files name
-read_too_long None name h = let long = long_list WORLD_BYTES in record { bytes = long.0; held = tt; above = long.1 }
+pub read_too_long : (files : Option Files) (name : List ℕ) → ReadsWhole files name 16777216 (Err fault.TooLarge) → IsTooLong files name
+read_too_long None name h = let long = long_list 16777216 in record { bytes = long.0; held = tt; above = long.1 }
 read_too_long (Some files) name h =
-    let long = long_file (file_of name files) WORLD_BYTES h in
+    let long = long_file (file_of name files) 16777216 h in
     record { bytes = long.0; held = long.1; above = long.2 }
 
+-- a world that a file says is complete, and has names
+whole_by : (toml : Bool) (bytes : List ℕ) (w : Lists) → (if toml then toml_says bytes else csv_says bytes) ≡ Ok w → IsComplete w × IsNamed w
+whole_by true bytes w is = toml_whole bytes w is
+whole_by false bytes w is = csv_whole bytes w is
+
+file_whole : (files : Option Files) (name : List ℕ) (w : Lists) → FileSays files name (Ok w) → IsComplete w × IsNamed w
+file_whole files name w file = whole_by (names_toml name) file.bytes w file.is
+
 plans_world : (w : Lists) (old new : Option (List ℕ)) (Is : Lists → List ℕ → Type 0) → IsServed w → TakesText old new (Is w) → (files : Option Files) (name : List ℕ) → FileSays files name (Ok w) → PlansWorld files name old new Is
-plans_world w old new Is served text files name file = record { world = w; file = file; served = served; text = text }
+plans_world w old new Is served text files name file =
+    let whole = file_whole files name w file in
+    record { world = w; file = file; complete = whole.0; named = whole.1; served = served; text = text }
 
 pub ends_done : (w : Lists) (old new : Option (List ℕ)) → IsServed w → TakesText old new (IsLeastPlan w) → WorldEnds w old new status.Done
 ends_done w old new served text = plans_world w old new IsLeastPlan served text
@@ -68,7 +80,7 @@ ends_in_want w old new served (inr text) files name file = inr (plans_world w ol
 pub ends_unserved : (w : Lists) (old : Option (List ℕ)) → ¬ (IsServed w) → WorldEnds w old old (status.NotBuilt 0)
 ends_unserved w old not files name file = (refl, record { world = w; file = file; unserved = not }, refl)
 
-says : (files : Option Files) (name bytes : List ℕ) (told : Result Lists LineFault) → world_says name bytes ≡ told → Holds files name bytes → length bytes ≤ WORLD_BYTES → FileSays files name told
+says : (files : Option Files) (name bytes : List ℕ) (told : Result Lists LineFault) → world_says name bytes ≡ told → Holds files name bytes → length bytes ≤ 16777216 → FileSays files name told
 says files name bytes told is held within = record { bytes = bytes; held = held; within = within; is = is }
 
 -- a world that the bytes say ends as it does

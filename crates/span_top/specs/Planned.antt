@@ -4,12 +4,11 @@ use Rattle.std.specs.List.{ends_with}
 use Rattle.span_base.specs.Files.{Files, file_of}
 use Rattle.span_base.specs.declared.words.What.{What}
 use Rattle.span_base.specs.declared.words.What.TheVariants.{Bytes}
-use Rattle.workload.specs.World.{Lists}
+use Rattle.workload.specs.World.{Lists, IsComplete, IsNamed}
 use Rattle.world_text.specs.ReadWorld.{LineFault, csv_says, refused_for, refused_above}
 use Rattle.world_text.specs.Toml.{toml_says}
 use Rattle.planner.specs.Plans.{IsLeastPlan, IsPlanWithout, IsPlanFront}
 use Rattle.planner.specs.Writes.{IsServed, TakesText}
-use Rattle.span_top.specs.declared.plan_command.TheConstants.{WORLD_BYTES}
 use Rattle.span_top.specs.declared.status.Status.{Status}
 use Rattle.span_top.specs.declared.status.Status.TheVariants.{Done, NoMemory, Usage, Absent, BadInput, NoPolicy, ReadFault, WriteFault, TooLarge, NotBuilt}
 
@@ -31,23 +30,23 @@ names_toml name = ends_with nat_eq name (codes ".toml")
 abbrev pub world_says : List ℕ → List ℕ → Result Lists LineFault
 world_says name bytes = if names_toml name then toml_says bytes else csv_says bytes
 
--- the named file is within the limit on its bytes, and says this
+-- the named file has at most 16,777,216 bytes, and says this
 pub record FileSays (files : Option Files) (name : List ℕ) (says : Result Lists LineFault) : Type 0 where
   pub bytes : List ℕ
   pub held : Holds files name bytes
-  pub within : length bytes ≤ WORLD_BYTES
+  pub within : length bytes ≤ 16777216
   pub is : world_says name bytes ≡ says
 
--- the named file has more bytes than the limit
+-- the named file has more than 16,777,216 bytes
 pub record IsTooLong (files : Option Files) (name : List ℕ) : Type 0 where
   pub bytes : List ℕ
   pub held : Holds files name bytes
-  pub above : WORLD_BYTES < length bytes
+  pub above : 16777216 < length bytes
 
 -- the named file passes a limit: that on its bytes, or one in a line
 abbrev pub PassesLimit : Option Files → List ℕ → ℕ → What → ℕ → Type 0
 PassesLimit files name line what number =
-    ((line ≡ 0) × (what ≡ Bytes) × (number ≡ WORLD_BYTES + 1) × IsTooLong files name)
+    ((line ≡ 0) × (what ≡ Bytes) × (number ≡ 16777217) × IsTooLong files name)
     ⊎ FileSays files name (refused_above line what number)
 
 -- the named file is a world with a set that isn't planned yet
@@ -60,11 +59,13 @@ pub record IsUnserved (files : Option Files) (name : List ℕ) : Type 0 where
 abbrev pub TakesNothing : Option (List ℕ) → Option (List ℕ) → Type 0
 TakesNothing old new = new ≡ old
 
--- the file is a world whose sets are all planned, and the sink took a text of which this holds for
--- that world
+-- the file is a world, complete and with names, whose sets are all planned, and the sink took a text
+-- of which this holds for that world
 pub record PlansWorld (files : Option Files) (name : List ℕ) (old new : Option (List ℕ)) (Is : Lists → List ℕ → Type 0) : Type 0 where
   pub world : Lists
   pub file : FileSays files name (Ok world)
+  pub complete : IsComplete world
+  pub named : IsNamed world
   pub served : IsServed world
   pub text : TakesText old new (Is world)
 
@@ -86,7 +87,7 @@ PlanEnds files name old new (NotBuilt line) = (line ≡ 0) × IsUnserved files n
 -- how `plan` ends with a file of this name and bytes, within the limit, and what the sink took
 abbrev pub BytesEnd : List ℕ → List ℕ → Option (List ℕ) → Option (List ℕ) → Status → Type 0
 BytesEnd name bytes old new status =
-    (files : Option Files) → Holds files name bytes → length bytes ≤ WORLD_BYTES → PlanEnds files name old new status
+    (files : Option Files) → Holds files name bytes → length bytes ≤ 16777216 → PlanEnds files name old new status
 
 -- how `plan` ends with a world, which some file says, and what the sink took
 abbrev pub WorldEnds : Lists → Option (List ℕ) → Option (List ℕ) → Status → Type 0

@@ -1,7 +1,14 @@
 -- The words of the command line.
-use Rattle.std.specs.Prelude.{ℕ, Bool, false, ◌&&◌, ◌||◌, if◌then◌else◌, nat_lt, nat_le, List, [], ◌∷◌, length, codes, Option, Some, None}
+use Rattle.std.specs.Prelude.{ℕ, Bool, ◌&&◌, ◌||◌, if◌then◌else◌, nat_lt, nat_le, List, [], ◌∷◌, length, codes, Option, Some, None}
 use Rattle.std.specs.Str.{bytes_eq}
 use Rattle.span_base.specs.Number.{is_number, number_of}
+use Rattle.span_top.specs.declared.command.Command.{Command}
+use Rattle.span_top.specs.declared.command.Command.TheVariants as command
+
+-- what the words ask for: a plan of the world in a named file, or a command that isn't served yet
+pub data Asked : Type 0 where
+  a_plan : List ℕ → Asked
+  unserved : Asked
 
 -- a file's name is any word that isn't empty
 abbrev pub is_file : List ℕ → Bool
@@ -11,11 +18,15 @@ is_file word = nat_lt 0 (length word)
 abbrev pub is_between : ℕ → ℕ → List ℕ → Bool
 is_between low high word = is_number word && (nat_le low (number_of word) && nat_le (number_of word) high)
 
--- the words `plan WORLD`, `replay SCHEDULE`, `audit LOG`, `loop SCRIPT` and `gen N`
+-- this is asked, where the words are right
+abbrev pub asked_where : Bool → Asked → Option Asked
+asked_where right asked = if right then Some asked else None
+
+-- the words `gen N`, `replay SCHEDULE`, `audit LOG` and `loop SCRIPT`
 abbrev pub is_short_command : List ℕ → List ℕ → Bool
 is_short_command word last =
     if bytes_eq word (codes "gen") then is_between 0 20000 last
-    else ((bytes_eq word (codes "plan") || (bytes_eq word (codes "replay") || (bytes_eq word (codes "audit") || bytes_eq word (codes "loop")))) && is_file last)
+    else ((bytes_eq word (codes "replay") || (bytes_eq word (codes "audit") || bytes_eq word (codes "loop"))) && is_file last)
 
 -- the words `plan WORLD BUDGET` and `check WORLD PLAN`
 abbrev pub is_long_command : List ℕ → List ℕ → List ℕ → Bool
@@ -23,17 +34,21 @@ is_long_command word world last =
     if bytes_eq word (codes "plan") then is_file world && is_between 1 1000000000 last
     else (bytes_eq word (codes "check") && (is_file world && is_file last))
 
--- the words are those of a command
-abbrev pub is_command : List (List ℕ) → Bool
-is_command [] = false
-is_command (word ∷ []) = false
-is_command (word ∷ last ∷ []) = is_short_command word last
-is_command (word ∷ world ∷ last ∷ []) = is_long_command word world last
-is_command (word ∷ world ∷ last ∷ next ∷ more) = false
+-- what two words ask for: `plan WORLD`, or a command that isn't served yet
+abbrev pub short_command : List ℕ → List ℕ → Option Asked
+short_command word last =
+    if bytes_eq word (codes "plan") then asked_where (is_file last) (a_plan last)
+    else asked_where (is_short_command word last) unserved
 
--- the world that the words `plan WORLD` ask to plan
-abbrev pub planned_world : List (List ℕ) → Option (List ℕ)
-planned_world [] = None
-planned_world (word ∷ []) = None
-planned_world (word ∷ name ∷ []) = if bytes_eq word (codes "plan") && is_file name then Some name else None
-planned_world (word ∷ name ∷ next ∷ more) = None
+-- what the words ask for, or None where they are those of no command
+abbrev pub command_of : List (List ℕ) → Option Asked
+command_of [] = None
+command_of (word ∷ []) = None
+command_of (word ∷ last ∷ []) = short_command word last
+command_of (word ∷ world ∷ last ∷ []) = asked_where (is_long_command word world last) unserved
+command_of (word ∷ world ∷ last ∷ next ∷ more) = None
+
+-- what a command asks for
+abbrev pub asked_by : Command → Asked
+asked_by (command.Plan world) = a_plan world.now
+asked_by command.Unserved = unserved

@@ -2,16 +2,12 @@
 #![tactic(auto)]
 
 mod command;
+mod explanation;
 mod plan_command;
 mod run;
 mod status;
+mod texts;
 
+pub use explanation::explain;
 pub use run::span;
-pub use status::Status;
-
-#[cfg(test)]
-mod plan_tests;
-#[cfg(test)]
-mod tests;
-#[cfg(test)]
-mod world_tests;
+pub use status::{Status, StatusLine};

@@ -1,7 +1,7 @@
 ghost use Rattle.std.specs.Prelude.{◌≡◌, ◌≢◌, ◌≤◌};
 ghost use Rattle.span_base.specs.Counts.{Rose};
 ghost use Rattle.world_text.specs.ReadWorld.{Reads};
-ghost use Rattle.span_top.specs.Planned.{PlanEnds, BytesEnd, WorldEnds, world_says};
+ghost use Rattle.span_top.specs.Planned.{PlanEnds, BytesEnd, WorldEnds, names_toml, world_says};
 
 use crate::status::Status;
 use planner::{PlanEnd, PlanFault, is_served, plan_all};
@@ -11,7 +11,7 @@ use workload::World;
 use world_text::{WorldFault, read_csv, read_toml};
 
 /// The greatest number of bytes of a world's file.
-pub const WORLD_BYTES: u64 = 16_777_216;
+pub(crate) const WORLD_BYTES: u64 = 16_777_216;
 
 /// Plans the world of the named file, and writes the plan.
 #[tactic(auto, using(crate::proofs::Endings::reads))]
@@ -64,11 +64,18 @@ fn plan_bytes<K: Sink>(alloc: Global, name: &str, bytes: &Bytes, out: &mut K) ->
     }
 }
 
+// Whether the name ends as that of a TOML file.
+pub(crate) fn names_toml(name: &str) -> bool
+    ensures { result ≡ names_toml name.now }
+{
+    name.as_bytes().ends_with(b".toml")
+}
+
 // The world of a text, which is TOML where the name says so, else CSV.
 fn read_world(alloc: Global, name: &str, text: &[u8]) -> Result<World, WorldFault>
     ensures { Reads (world_says name.now text.now) result }
 {
-    if name.as_bytes().ends_with(b".toml") {
+    if names_toml(name) {
         read_toml(alloc, text)
     } else {
         read_csv(alloc, text)

@@ -1,9 +1,9 @@
-ghost use Rattle.std.specs.Prelude.{◌≡◌, ◌↔◌, ◌≤◌, false};
+ghost use Rattle.std.specs.Prelude.{◌≡◌, ◌↔◌, ◌≤◌, None};
 ghost use Rattle.span_base.specs.Counts.{Rose};
-ghost use Rattle.span_top.specs.Words.{is_command};
+ghost use Rattle.span_top.specs.Words.{command_of};
 ghost use Rattle.span_top.specs.Spans.{SpanEnds};
 
-use crate::command::{is_command, planned_world};
+use crate::command::{Command, command_of};
 use crate::plan_command::plan;
 use crate::status::Status;
 use span_base::{Shelf, Sink, Word};
@@ -13,7 +13,7 @@ use std::alloc::Global;
 #[tactic(auto, using(crate::proofs::Endings::not_usage))]
 pub fn span<S: Shelf, K: Sink>(alloc: Global, words: &[Word], shelf: &mut S, out: &mut K) -> Status
     ensures ends { SpanEnds words.now (S.files shelf.old) (K.taken out.old) (K.taken out.new) result }
-    ensures usage { (result ≡ Status.Usage) ↔ (is_command words.now ≡ false) }
+    ensures usage { (result ≡ Status.Usage) ↔ (command_of words.now ≡ None) }
     ensures read_fault { result ≡ Status.ReadFault → Rose (S.faults shelf.old) (S.faults shelf.new) }
     ensures absent { result ≡ Status.Absent 0 → Rose (S.absences shelf.old) (S.absences shelf.new) }
     ensures write_fault { result ≡ Status.WriteFault → Rose (K.faults out.old) (K.faults out.new) }
@@ -21,11 +21,9 @@ pub fn span<S: Shelf, K: Sink>(alloc: Global, words: &[Word], shelf: &mut S, out
     ensures absences_stay { S.absences shelf.old ≤ S.absences shelf.new }
     ensures write_faults_stay { K.faults out.old ≤ K.faults out.new }
 {
-    if !is_command(words) {
-        return Status::Usage;
-    }
-    match planned_world(words) {
-        Some(name) => plan(alloc, name.as_str(), shelf, out),
-        None => Status::NotBuilt { line: 0 },
+    match command_of(words) {
+        None => Status::Usage,
+        Some(Command::Unserved) => Status::NotBuilt { line: 0 },
+        Some(Command::Plan { world }) => plan(alloc, world, shelf, out),
     }
 }

@@ -62,6 +62,27 @@ impl Status {
             Status::NotBuilt { .. } => 14,
         }
     }
+
+    /// What the program writes on standard error: nothing at `Done`, else one line.
+    pub fn line(&self) -> StatusLine {
+        StatusLine { status: *self }
+    }
+}
+
+/// What the program writes on standard error where it ends so: nothing at `Done`, else `span: `, the
+/// status, and a line feed.
+#[derive(Clone, Copy, Debug)]
+pub struct StatusLine {
+    status: Status,
+}
+
+impl fmt::Display for StatusLine {
+    fn fmt<W: fmt::Write>(&self, f: &mut fmt::Formatter<W>) -> fmt::Result {
+        match self.status {
+            Status::Done => Ok(()),
+            status => write!(f, "span: {status}\n"),
+        }
+    }
 }
 
 /// The status's name and its fields in order, each after one space.

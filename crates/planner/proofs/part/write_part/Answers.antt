@@ -23,9 +23,9 @@ pub returns : goal.returns
 returns c =
     let lines : c.as_slice.result.now ≡ c.in_ok-lines.field-0.lines.items = cc in
     adds_none c.args.world.now c.args.set.0 c.in_ok-program.program c.in_ok-lines.field-0.lines.items c.in_ok-lines.field-0.best
-    (length c.costs.result.now) (string_bytes c.args.text.now) (string_bytes c.write_set.new.text) (string_bytes c.write_tree.new.text) (string_bytes c.write.new.self)
+    (length c.costs.result.now) (string_bytes c.args.text.now) (string_bytes c.write_set.new.text) (string_bytes c.write_tree.new.text) (string_bytes c.write_none.new.text)
     c.requires.0 c.in_ok-program.ensures c.in-None.is
     c.in_ok-lines.ensures.least c.in_ok-lines.ensures.proof
     (ap length c.costs.ensures.costs) c.in_ok-write_set.ensures
     (c.in_ok-write_tree.ensures ∙ ap (λ (ls : List Line). string_bytes c.write_set.new.text ++ tree_text ls) lines)
-    c.in_ok-write-in-None.ensures.bytes
+    c.in_ok-write_none-in-None.ensures

@@ -8,7 +8,7 @@ pub loop-number-init : goal.loop-number-init
 loop-number-init c =
     let empty : string_bytes c.new-text.result ≡ [] = search rules in
     let P : List ℕ → Type 0 = λ t. SoFar c.args.world.now 0 t Complete in
-    subst P (sym (c.in_ok-write.ensures.bytes ∙ ap (λ (t : List ℕ). t ++ codes "span-plan 1\n") empty)) (so_far_none c.args.world.now)
+    subst P (sym (c.in_ok-write_begin.ensures ∙ ap (λ (t : List ℕ). t ++ codes "span-plan 1\n") empty)) (so_far_none c.args.world.now)
 
 pub loop-number-preserved : goal.loop-number-preserved
 loop-number-preserved c =
@@ -24,4 +24,4 @@ write_part-requires c =
 pub returns : goal.returns
 returns c =
     let all : c.loop-number.number ≡ length c.args.world.now.sets = omega (arith, c.loop-number-test.false, c.loop-number.auto.number-end, c.sets-number-end.ensures) in
-    rw c.in_ok-write-2.ensures.bytes (so_far_all c.args.world.now c.loop-number.number (string_bytes c.loop-number.text) c.loop-number.end c.loop-number.invariant all)
+    rw c.in_ok-write_end.ensures (so_far_all c.args.world.now c.loop-number.number (string_bytes c.loop-number.text) c.loop-number.end c.loop-number.invariant all)

@@ -1,0 +1,82 @@
+use span_base::Word;
+use std::alloc::{AllocError, Global};
+
+/// A run: its words, and what else is asked of it.
+#[derive(Drop)]
+pub struct Run {
+    /// The words after `span`.
+    pub words: Vec<Word>,
+    /// The call of the shelf that fails, counted from 1.
+    pub shelf: Option<u64>,
+    /// The call of the sink that fails.
+    pub sink: Option<u64>,
+    /// Each call of the shelf fails once, and then each of the sink, until a run has no such call.
+    pub each_fault: bool,
+    /// The lines of trees are left out.
+    pub no_trees: bool,
+    /// What a status means is told in words too.
+    pub in_words: bool,
+}
+
+/// The run of these words, of which the first is `span`, and of these options, with a ` ; ` between
+/// them. None where an option is none.
+pub fn run_of(
+    alloc: Global,
+    command: &str,
+    options: Option<&str>,
+) -> Result<Option<Run>, AllocError> {
+    let mut run = Run {
+        words: words_of(alloc, command)?,
+        shelf: None,
+        sink: None,
+        each_fault: false,
+        no_trees: false,
+        in_words: false,
+    };
+    let Some(options) = options else {
+        return Ok(Some(run));
+    };
+    for option in options.split(" ; ") {
+        if !take_option(&mut run, option) {
+            return Ok(None);
+        }
+    }
+    Ok(Some(run))
+}
+
+// The words after the first. The empty word is spelled ''.
+fn words_of(alloc: Global, command: &str) -> Result<Vec<Word>, AllocError> {
+    let mut words = Vec::new(alloc);
+    for word in command.split(' ').skip(1) {
+        let text = if word == "''" { "" } else { word };
+        words.push(Word::from_string(String::from_str(alloc, text)?))?;
+    }
+    Ok(words)
+}
+
+// Takes an option, and answers whether it is one.
+fn take_option(run: &mut Run, option: &str) -> bool {
+    match option {
+        "each-fault" => run.each_fault = true,
+        "no-trees" => run.no_trees = true,
+        "in-words" => run.in_words = true,
+        _ => return take_failing_call(run, option),
+    }
+    true
+}
+
+// Takes `shelf N` or `sink N`.
+fn take_failing_call(run: &mut Run, option: &str) -> bool {
+    let Some((device, number)) = option.split_once(' ') else {
+        return false;
+    };
+    let Ok(call) = number.parse::<u64>() else {
+        return false;
+    };
+    match device {
+        "shelf" => run.shelf = Some(call),
+        "sink" => run.sink = Some(call),
+        _ => return false,
+    }
+    true
+}

@@ -1,0 +1,93 @@
+use crate::plan_command::{WORLD_BYTES, names_toml};
+use crate::status::Status;
+use crate::texts::{asked_by_cause, asked_by_limit};
+use span_base::{Cause, Shelf, Word, read_whole};
+use std::alloc::{AllocError, Global};
+use world_text::table_place;
+
+/// What a status means, in words: the file, the record in it, and what is asked of it. For a table of
+/// a TOML text the file is read once more; where it can't be, its record is told by its line.
+pub fn explain<S: Shelf>(
+    alloc: Global,
+    words: &[Word],
+    shelf: &mut S,
+    status: &Status,
+) -> Result<String, AllocError> {
+    let mut text = String::new(alloc);
+    match status {
+        Status::Done => text.push_str("all was done")?,
+        Status::NoMemory => text.push_str("there was no memory")?,
+        Status::Usage => {
+            text.push_str("the words are those of no command; span --help tells them")?;
+        }
+        Status::Absent { file } => {
+            let name = file_name(words, *file);
+            write!(text, "there is no file {name}")?;
+        }
+        Status::BadInput { file, line, cause } => {
+            let name = file_name(words, *file);
+            match cause {
+                // Only the end shows these.
+                Cause::Link | Cause::Members => write!(text, "{name}: after the last record: ")?,
+                _ => write_place(alloc, &mut text, shelf, name, *line)?,
+            }
+            text.push_str(asked_by_cause(*cause))?;
+        }
+        Status::NoPolicy { set } => {
+            let number = set.0;
+            write!(
+                text,
+                "no policy meets the goals of set {number}, counted from 0; the plan is written whole"
+            )?;
+        }
+        Status::ReadFault => text.push_str("a file couldn't be read")?,
+        Status::WriteFault => text.push_str("the output couldn't be written")?,
+        Status::TooLarge {
+            file,
+            line,
+            what,
+            number,
+        } => {
+            write_place(alloc, &mut text, shelf, file_name(words, *file), *line)?;
+            let asked = asked_by_limit(*what);
+            write!(text, "{number} is too large: {asked}")?;
+        }
+        Status::NotBuilt { .. } => {
+            text.push_str(
+                "this isn't served yet; what is planned today stands in docs/FORMATS.md",
+            )?;
+        }
+    }
+    Ok(text)
+}
+
+// The name of a file, which are counted from 0 behind the word of the command.
+fn file_name(words: &[Word], file: u8) -> &str {
+    match words.get(usize::from(file) + 1) {
+        Some(name) => name.as_str(),
+        None => "",
+    }
+}
+
+// Adds the name of a file and the record at a line of it. Line 0 is the whole file.
+fn write_place<S: Shelf>(
+    alloc: Global,
+    text: &mut String,
+    shelf: &mut S,
+    name: &str,
+    line: u64,
+) -> Result<(), AllocError> {
+    write!(text, "{name}: ")?;
+    if line == 0 {
+        return Ok(());
+    }
+    if names_toml(name) {
+        if let Ok(bytes) = read_whole(alloc, shelf, name, WORLD_BYTES) {
+            if let Some(place) = table_place(alloc, bytes.as_slice(), line) {
+                let (number, key) = (place.number, place.key);
+                return write!(text, "table {number} of {key}: ");
+            }
+        }
+    }
+    write!(text, "record {line}: ")
+}
