@@ -1,0 +1,183 @@
+-- A read or a write that begins rests on what it should.
+use Rattle.std.proofs.Common.{◌≡◌, ◌⊎◌, inl, inr, ℕ, ◌≤◌, Bool, true, false, List, ◌∷◌, ◌++◌, refl, sym, ap, ◌∙◌, subst, arith}
+use Rattle.std.specs.Prelude.{length, ◌==◌, ◌&&◌, if◌then◌else◌, Option, Some, None, Contains}
+use Rattle.std.proofs.lemmas.Grind.{common_steps}
+use Rattle.std.proofs.lemmas.List.Elements.{Contains-append_right, Contains-append_cases}
+use Rattle.span_base.specs.declared.ids.Call.{Call}
+use Rattle.span_base.specs.declared.ids.KeyId.{KeyId}
+use Rattle.span_base.specs.DcSet.{centres_of}
+use Rattle.span_base.specs.declared.policy.Policy.{Policy}
+use Rattle.span_base.specs.declared.policy.Quorum.{Quorum}
+use Rattle.span_base.specs.PolicyParts.{member_of}
+use Rattle.span_base.proofs.Sets.{has-no_centre}
+use Rattle.ticket_rules.specs.declared.stamp.Stamp.{Stamp}
+use Rattle.ticket_rules.specs.Stamp.{IsAtMost}
+use Rattle.wire_msg.specs.declared.tag.Tag.{Tag}
+use Rattle.wire_msg.specs.declared.message.Message.{Message}
+use Rattle.wire_msg.specs.declared.outputs.Post.{Post}
+use Rattle.wire_msg.specs.declared.outputs.View.{View}
+use Rattle.wire_msg.specs.Posts.{tag_of}
+use Rattle.wire_msg.specs.declared.message.Message.TheVariants as m
+use Rattle.strong_proxy.specs.declared.progress.Stage.TheVariants.{First}
+use Rattle.strong_proxy.specs.declared.state.Work.{Work}
+use Rattle.strong_proxy.specs.declared.state.Work.TheVariants.{ToRead, ToWrite}
+use Rattle.strong_proxy.specs.declared.state.CallState.{CallState}
+use Rattle.strong_proxy.specs.Rule.{leg_under, first_set, first_posts, opened_with}
+use Rattle.epoch_directory.specs.State.{latest, current_of}
+use Rattle.run_marks.specs.declared.mark.Work.{Work as Asked}
+use Rattle.run_marks.specs.declared.mark.Mark.{Mark}
+use Rattle.run_marks.specs.declared.mark.Work.TheVariants as w
+use Rattle.run_marks.specs.declared.mark.Mark.TheVariants as k
+use Rattle.world_core.specs.State.{Store, proxy_at, view_at, policy_of}
+use Rattle.world_core.specs.Starting.{first_tag, ticket_marks}
+use Rattle.world_core.specs.Step.{Happening}
+use Rattle.register_law.specs.Ghost.{Ghost, Begun, noted_of, is_noted, begun_after}
+use Rattle.register_law.specs.Seen.{WasSent, Grows}
+use Rattle.register_law.specs.Tags.{IsSamePoint, TagsTellApart}
+use Rattle.register_law.specs.Live.{IsStrongRequest, TicketOf, StoresOnly, HasTicket, IsWork}
+use Rattle.register_law.specs.Cases.{Happened, Started, started, next_call}
+use Rattle.register_law.specs.Ends.{OpeningsAreBacked, EndsAreBacked}
+use Rattle.register_law.proofs.Growth.{at_most_itself}
+use Rattle.register_law.proofs.CallsEach.{WasPosted, sent_cases, Each}
+use Rattle.register_law.proofs.CallsApart.{not_next, start_tickets}
+use Rattle.register_law.proofs.CallsBacked.{CallBacked}
+use Rattle.register_law.proofs.CallsMembers.{member_is_in}
+use Rattle.register_law.proofs.CallsPhase.{request_stores, request_asks, no_good}
+use Rattle.register_law.proofs.CallsLegs.{first_asks, none_first, asked_first, first_set_some, first_noted, under_policy}
+use Rattle.register_law.proofs.CallsEnter.{ViewKnown, first_repairs}
+use Rattle.register_law.proofs.CallsBegun.{start_view, start_ticket}
+use Rattle.register_law.proofs.Basics.{same_number}
+
+-- the call that begins
+abbrev pub new_call : Work → Stamp → Quorum → Store → ℕ → KeyId → Tag → CallState
+new_call work ticket member s p at tag = (opened_with work tag (proxy_at s p).at (start_view s p at).key (leg_under (start_view s p at) member ticket)).state
+
+-- the call's work is what was asked for, and a write has the ticket that its proxy drew
+abbrev pub IsBegunAs : Work → Stamp → Asked → Stamp → Type 0
+IsBegunAs ToRead ticket asked drawn = asked ≡ w.Read
+IsBegunAs (ToWrite value) ticket asked drawn = (asked ≡ w.Write value) × (ticket ≡ drawn)
+
+begun_ticket : (work : Work) (ticket : Stamp) (member : Quorum) (s : Store) (p : ℕ) (at : KeyId) (asked : Asked) (tag : Tag) → tag.call ≡ next_call s p
+    → IsBegunAs work ticket asked (start_ticket s p at) → TicketOf work (new_call work ticket member s p at tag).progress
+begun_ticket ToRead ticket member s p at asked tag own h = tt
+begun_ticket (ToWrite value) ticket member s p at asked tag own h =
+    subst (λ (t : Stamp). TicketOf (ToWrite value) (new_call (ToWrite value) t member s p at tag).progress) (sym h.1)
+    (refl, omega arith, ap (λ (c : Call). c.proxy) (sym own), ap (λ (c : Call). c.seq) (sym own))
+
+begun_by : (a b c d : Bool) (one : Begun) (was : Option Begun) → a ≡ true → b ≡ true → c ≡ true → d ≡ true → (if a && (b && (c && d)) then Some one else was) ≡ Some one
+begun_by true true true true one was x y z u = refl
+begun_by false b c d one was x y z u = absurd (cc)
+begun_by true false c d one was x y z u = absurd (cc)
+begun_by true true false d one was x y z u = absurd (cc)
+begun_by true true true false one was x y z u = absurd (cc)
+
+-- a read or a write of the key that begins is noted with its work
+pub begun_is : (key : KeyId) (top : Stamp) (epoch : ℕ) (call : Call) (at : KeyId) (asked : Asked) (more : List Mark) (was : Call → Option Begun) → at ≡ key → is_noted asked ≡ true
+    → begun_after key top epoch (k.Begin call at asked ∷ more) was call ≡ Some (record { work = asked; floor = top; epoch = epoch })
+begun_is key top epoch call at asked more was same noted =
+    begun_by (at.0 == key.0) (is_noted asked) (call.proxy == call.proxy) (call.seq == call.seq) (record { work = asked; floor = top; epoch = epoch }) (was call)
+    (subst (λ (x : KeyId). (x.0 == key.0) ≡ true) (sym same) (same_number key.0)) noted (same_number call.proxy) (same_number call.seq)
+
+noted_work : (work : Work) (ticket drawn : Stamp) (asked : Asked) → IsBegunAs work ticket asked drawn → is_noted asked ≡ true
+noted_work ToRead ticket drawn asked h = ap is_noted h
+noted_work (ToWrite value) ticket drawn asked h = ap is_noted h.0
+
+works_agree : (work : Work) (ticket drawn : Stamp) (asked : Asked) → IsBegunAs work ticket asked drawn → IsWork work asked
+works_agree ToRead ticket drawn asked h = h
+works_agree (ToWrite value) ticket drawn asked h = h.0
+
+-- the ticket of a call that begins is its only one
+first_ticket : (work : Work) (ticket drawn : Stamp) (marks : List Mark) (call : Call) (tag : Tag) (at : KeyId) (asked : Asked) → tag.call ≡ call → IsBegunAs work ticket asked drawn → ((other : Stamp) → Contains marks (k.Ticket call other) → ⊥)
+    → HasTicket work (marks ++ (k.Begin call at asked ∷ ticket_marks call drawn asked)) tag ticket
+first_ticket ToRead ticket drawn marks call tag at asked own h none = tt
+first_ticket (ToWrite value) ticket drawn marks call tag at asked own h none =
+    let here : Contains (k.Begin call at asked ∷ ticket_marks call drawn asked) (k.Ticket call drawn) =
+    subst (λ (x : Asked). Contains (k.Begin call at asked ∷ ticket_marks call drawn x) (k.Ticket call drawn)) (sym h.0) (1, omega arith, refl) in
+    record {
+      noted = subst (λ (c : Call). Contains (marks ++ (k.Begin call at asked ∷ ticket_marks call drawn asked)) (k.Ticket c ticket)) (sym own)
+          (subst (λ (t : Stamp). Contains (marks ++ (k.Begin call at asked ∷ ticket_marks call drawn asked)) (k.Ticket call t)) (sym h.1) (Contains-append_right marks (k.Begin call at asked ∷ ticket_marks call drawn asked) (k.Ticket call drawn) here));
+      greatest = λ other c. by other (Contains-append_cases marks (k.Begin call at asked ∷ ticket_marks call drawn asked) (k.Ticket call other) (subst (λ (x : Call). Contains (marks ++ (k.Begin call at asked ∷ ticket_marks call drawn asked)) (k.Ticket x other)) own c));
+    }
+  where
+    by : (other : Stamp) → Contains marks (k.Ticket call other) ⊎ Contains (k.Begin call at asked ∷ ticket_marks call drawn asked) (k.Ticket call other) → IsAtMost other ticket
+    by other (inl was) = absurd (none other was)
+    by other (inr new) = subst (λ (x : Stamp). IsAtMost x ticket) (h.1 ∙ (start_tickets call call at asked drawn other new).0) (at_most_itself ticket)
+
+pub starts_backed : (key : KeyId) (s : Store) (g : Ghost) (h : Happening) (p : ℕ) (at : KeyId) (asked : Asked) (st : Started s p at asked h) (work : Work) (ticket : Stamp)
+    → TagsTellApart s → OpeningsAreBacked key s g → EndsAreBacked key s g → Grows key s g h.store (noted_of key s h g)
+    → IsBegunAs work ticket asked (start_ticket s p at)
+    → at ≡ key → (start_view s p at).key ≡ at
+    → (member : Quorum) → member_of (start_view s p at).policy (proxy_at s p).at.0 ≡ Some member
+    → h.posts ≡ first_posts work (start_view s p at).key (first_tag (next_call s p) st.handle) (leg_under (start_view s p at) member ticket)
+    → CallBacked key h.store (noted_of key s h g) (new_call work ticket member s p at (first_tag (next_call s p) st.handle))
+starts_backed key s g h p at asked st work ticket tags openings ends grows agree same view_key member is_member posts = record {
+  request = λ request sent any point. request_of request point (sent_cases s h request is sent);
+  counted = none_first h.store work call refl refl has-no_centre;
+  within = λ d c. no_good d _ c;
+  policy = under_policy key h.store (noted_of key s h g) call view member refl is_member (grows.opened view.epoch opened) (policy ∙ sym (grows.policies view.epoch range.0 range.1)) (asked_first work view member ticket) drawn;
+  leg = λ _. first_noted key s g h call (view_key ∙ same) drawn some posts;
+  begun = λ b e. subst (IsWork work) (ap (λ (x : Begun). x.work) (one_begun (record { work = asked; floor = g.top; epoch = current_of s.directory key }) b (sym noted ∙ e))) (works_agree work ticket _ asked agree);
+  repair = λ b e. first_repairs key h.store work None b.floor;
+  store = λ tag stamp value sent own. store_of tag stamp value own (sent_cases s h (m.Store tag key stamp value) is sent);
+  epochs = λ tag stamp sent own. ask_of tag stamp own (sent_cases s h (m.Ask tag key stamp) is sent);
+  ticket = subst (λ (x : Happening). HasTicket work (g.marks ++ x.marks) (first_tag (next_call s p) st.handle) ticket) (sym st.is)
+      (first_ticket work ticket (start_ticket s p at) g.marks (next_call s p) (first_tag (next_call s p) st.handle) at asked refl agree
+      (λ other c. not_next s p (next_call s p) (ends.marks_numbered (next_call s p) (k.Ticket (next_call s p) other) c refl).1 refl));
+}
+  where
+    is : Happened s h
+    is = started p at asked st
+
+    view : View
+    view = view_at (proxy_at s p).views at
+
+    call : CallState
+    call = new_call work ticket member s p at (first_tag (next_call s p) st.handle)
+
+    known_at : (x : KeyId) → at ≡ x → ViewKnown x s g (view_at (proxy_at s p).views x) → ViewKnown x s g (start_view s p at)
+    known_at x e v = subst (λ (y : KeyId). ViewKnown x s g (view_at (proxy_at s p).views y)) (sym e) v
+
+    known : ViewKnown key s g (start_view s p at)
+    known = known_at key same (record { opened = (openings.view_opened p st.exists).0; policy = (openings.view_opened p st.exists).1 })
+
+    opened : Contains g.opened (start_view s p at).epoch
+    opened = known.opened
+
+    policy : (start_view s p at).policy ≡ policy_of s key (start_view s p at).epoch
+    policy = known.policy
+
+    range : (1 ≤ (start_view s p at).epoch) × ((start_view s p at).epoch ≤ latest s.directory)
+    range = openings.published (start_view s p at).epoch opened
+
+    drawn : TicketOf work (new_call work ticket member s p at (first_tag (next_call s p) st.handle)).progress
+    drawn = begun_ticket work ticket member s p at asked (first_tag (next_call s p) st.handle) refl agree
+
+    some : 1 ≤ length (centres_of (first_set work (leg_under (start_view s p at) member ticket)))
+    some = first_set_some work (start_view s p at) member ticket (policy_of s key (start_view s p at).epoch) (openings.policies_quorum (start_view s p at).epoch range.0 range.1)
+        (member_is_in (policy_of s key (start_view s p at).epoch) (proxy_at s p).at.0 member (subst (λ (x : Policy). member_of x (proxy_at s p).at.0 ≡ Some member) policy is_member))
+
+    noted : (noted_of key s h g).begun (next_call s p) ≡ Some (record { work = asked; floor = g.top; epoch = current_of s.directory key })
+    noted = subst (λ (x : Happening). begun_after key g.top (current_of s.directory key) x.marks g.begun (next_call s p) ≡ Some (record { work = asked; floor = g.top; epoch = current_of s.directory key })) (sym st.is)
+        (begun_is key g.top (current_of s.directory key) (next_call s p) at asked (ticket_marks (next_call s p) (start_ticket s p at) asked) g.begun same (noted_work work ticket (start_ticket s p at) asked agree))
+
+    one_begun : (a b : Begun) → Some a ≡ Some b → a ≡ b
+    one_begun a b e = cc
+
+    fresh : (request : Message) → WasSent s request → (tag_of request).call ≡ next_call s p → ⊥
+    fresh request sent own = not_next s p (tag_of request).call (tags.sent_numbered request sent).begun (sym own)
+
+    asks : Each (IsStrongRequest work First (new_call work ticket member s p at (first_tag (next_call s p) st.handle))) h.posts
+    asks = subst (λ (x : List Post). Each (IsStrongRequest work First (new_call work ticket member s p at (first_tag (next_call s p) st.handle))) x) (sym posts) (first_asks work (new_call work ticket member s p at (first_tag (next_call s p) st.handle)))
+
+    request_of : (request : Message) → IsSamePoint (tag_of request) (first_tag (next_call s p) st.handle) → WasSent s request ⊎ WasPosted h request
+        → IsStrongRequest work First (new_call work ticket member s p at (first_tag (next_call s p) st.handle)) request
+    request_of request point (inl old) = absurd (fresh request old point.call)
+    request_of request point (inr new) = asks (record { to = new.0; message = request }) new.1
+
+    store_of : (tag : Tag) (stamp : Stamp) (value : List ℕ) → tag.call ≡ next_call s p → WasSent s (m.Store tag key stamp value) ⊎ WasPosted h (m.Store tag key stamp value) → StoresOnly work First ticket stamp
+    store_of tag stamp value own (inl old) = absurd (fresh (m.Store tag key stamp value) old own)
+    store_of tag stamp value own (inr new) = request_stores work First (new_call work ticket member s p at (first_tag (next_call s p) st.handle)) tag key stamp value (asks (record { to = new.0; message = m.Store tag key stamp value }) new.1)
+
+    ask_of : (tag : Tag) (stamp : Stamp) → tag.call ≡ next_call s p → WasSent s (m.Ask tag key stamp) ⊎ WasPosted h (m.Ask tag key stamp) → stamp.epoch ≤ (start_view s p at).epoch
+    ask_of tag stamp own (inl old) = absurd (fresh (m.Ask tag key stamp) old own)
+    ask_of tag stamp own (inr new) = request_asks work First (new_call work ticket member s p at (first_tag (next_call s p) st.handle)) tag key stamp (asks (record { to = new.0; message = m.Ask tag key stamp }) new.1) drawn

@@ -1,0 +1,192 @@
+-- What an event that is taken was: the one place that opens the step.
+use Rattle.std.proofs.Common.{◌≡◌, ℕ, ◌+◌, ◌<◌, Bool, true, false, List, [], ◌∷◌, refl, ap, ◌∙◌, arith}
+use Rattle.std.specs.Prelude.{nat_lt, not, ◌&&◌, ◌==◌, if◌then◌else◌, length, Option, Some, None, slice_get, Ok, Err, Contains}
+use Rattle.std.specs.Option.{option_map_or}
+use Rattle.std.proofs.lemmas.Grind.{common_steps}
+use Rattle.std.proofs.lemmas.Option.{slice_get_within, get_or_from_slice_get}
+use Rattle.span_base.specs.declared.ids.Call.{Call}
+use Rattle.span_base.specs.declared.ids.KeyId.{KeyId}
+use Rattle.span_base.specs.declared.words.What.TheVariants.{Messages, FrameBytes, Epochs}
+use Rattle.wire_msg.specs.declared.actor.Actor.{Actor}
+use Rattle.wire_msg.specs.declared.message.Message.{Message}
+use Rattle.wire_msg.specs.declared.outputs.Post.{Post}
+use Rattle.wire_msg.specs.declared.outputs.View.{View}
+use Rattle.wire_msg.specs.declared.outputs.Reply.{Reply}
+use Rattle.wire_msg.specs.Sizes.{bulk_of}
+use Rattle.wire_msg.specs.Outputs.{Step}
+use Rattle.wire_msg.specs.declared.actor.Actor.TheVariants as to
+use Rattle.wire_msg.specs.declared.outputs.Reply.TheVariants as r
+use Rattle.slot_pool.specs.declared.handles.Handle.{Handle}
+use Rattle.slot_pool.specs.Slots.{item_at, next_handle, after_take}
+use Rattle.replica_core.specs.Rule as replica
+use Rattle.epoch_directory.specs.declared.table.PublishFault.{PublishFault}
+use Rattle.epoch_directory.specs.declared.table.SetPolicy.{SetPolicy}
+use Rattle.epoch_directory.specs.State.{latest, State}
+use Rattle.epoch_directory.specs.Tables.{after_publish, table_fault}
+use Rattle.epoch_directory.specs.declared.table.PublishFault.TheVariants as fault
+use Rattle.epoch_directory.specs.Step as directory_step
+use Rattle.run_marks.specs.declared.mark.Work.{Work}
+use Rattle.run_marks.specs.declared.mark.Mark.{Mark}
+use Rattle.run_marks.specs.History.{is_dead}
+use Rattle.run_marks.specs.declared.mark.Mark.TheVariants as k
+use Rattle.run_marks.specs.declared.mark.NoEpochCause.TheVariants as cause
+use Rattle.world_core.specs.declared.live.LiveCall.{LiveCall}
+use Rattle.world_core.specs.declared.event.Event.{Event}
+use Rattle.world_core.specs.declared.event.Event.TheVariants.{Start, Deliver, StopReplica, StopProxy, GiveUp, Publish}
+use Rattle.world_core.specs.declared.event.StepFault.{StepFault}
+use Rattle.world_core.specs.declared.event.StepFault.TheVariants.{NoActor, NoKey, WrongMode, NoMessage, NoCall, Limit}
+use Rattle.world_core.specs.State.{Store, Proxy, replica_at, proxy_at, view_at}
+use Rattle.world_core.specs.Knowing.{learned}
+use Rattle.world_core.specs.Calls.{Taken, tag_of_call}
+use Rattle.world_core.specs.Starting.{Done, is_member, draws_ticket, ticket_of, opened_call, ends_at_once, enters, enters_with, first_tag, starts_in, starts_as, starts}
+use Rattle.world_core.specs.Step.{Happening, Outcome, nothing, sends, with_sent, with_proxy, with_replica, proxy_did, is_strong_key, fits_mode, start_at, start, replica_takes, proxy_takes, proxy_takes_as, call_takes, only_learns, handle_in, deliver_to, handle_of_call, may_give_up, gives_up, give_up_under, give_up, opens_none, judged, step, message_limit, byte_limit}
+use Rattle.register_law.specs.Cases.{Happened, did, next_call, quietly, ignored, replica_stopped, proxy_stopped, refused_at_once, started, replica_took, directory_took, proxy_learned, call_took, gave_up, published, not_published}
+use Rattle.register_law.proofs.Basics.{within_is, not_false}
+
+choose : (h : Happening) (X : Type 0) (b : Bool) (one other : Outcome) → (b ≡ true → one ≡ Ok h → X) → (b ≡ false → other ≡ Ok h → X) → (if b then one else other) ≡ Ok h → X
+choose h X true one other f g e = f refl e
+choose h X false one other f g e = g refl e
+
+as_outcome : Happening → Outcome
+as_outcome g = Ok g
+
+refused : (h : Happening) (X : Type 0) (fault : StepFault) (o : Outcome) → o ≡ Err fault → o ≡ Ok h → X
+refused h X fault o is e = absurd (cc)
+
+ok_is : (g h : Happening) (o : Outcome) → o ≡ Ok g → o ≡ Ok h → h ≡ g
+ok_is g h o is e = cc
+
+-- what was sent passed the limits
+pub sends_is : (s : Store) (posts : List Post) (marks : List Mark) (h : Happening) → sends s posts marks ≡ Ok h → h ≡ with_sent s posts marks
+sends_is s posts marks h e =
+    let X : Type 0 = h ≡ with_sent s posts marks in
+    let bytes : Outcome = if nat_lt byte_limit ((bulk_of s.sent).bytes + (bulk_of posts).bytes) then Err (Limit FrameBytes ((bulk_of s.sent).bytes + (bulk_of posts).bytes)) else Ok (with_sent s posts marks) in
+    choose h (h ≡ with_sent s posts marks) (nat_lt message_limit (length s.sent + length posts)) (Err (Limit Messages (length s.sent + length posts))) bytes
+    (λ _ k. refused h (h ≡ with_sent s posts marks) (Limit Messages (length s.sent + length posts)) (Err (Limit Messages (length s.sent + length posts))) refl k)
+    (λ _ k. choose h (h ≡ with_sent s posts marks) (nat_lt byte_limit ((bulk_of s.sent).bytes + (bulk_of posts).bytes)) (Err (Limit FrameBytes ((bulk_of s.sent).bytes + (bulk_of posts).bytes))) (Ok (with_sent s posts marks))
+    (λ _ z. refused h (h ≡ with_sent s posts marks) (Limit FrameBytes ((bulk_of s.sent).bytes + (bulk_of posts).bytes)) (Err (Limit FrameBytes ((bulk_of s.sent).bytes + (bulk_of posts).bytes))) refl z)
+    (λ _ z. ok_is (with_sent s posts marks) h (Ok (with_sent s posts marks)) refl z) k) e
+
+-- how a call begins
+pub data Begins (strong : Bool) (proxy : Proxy) (call : Call) (key : KeyId) (work : Work) (view : View) (d : Done Proxy) : Type 0 where
+  at_once : (reply : Reply) → is_dead reply ≡ true → d ≡ ends_at_once proxy call key work reply → Begins strong proxy call key work view d
+  lives : (handle : Handle) (taken : Taken) → next_handle proxy.calls ≡ Some handle → opened_call strong (first_tag call handle) proxy.at view (ticket_of proxy view call) work ≡ Some taken
+      → d ≡ enters proxy call handle key work (ticket_of proxy view call) taken → Begins strong proxy call key work view d
+
+entering : (strong : Bool) (proxy : Proxy) (call : Call) (key : KeyId) (work : Work) (view : View) (handle : Handle) (o : Option Taken) → next_handle proxy.calls ≡ Some handle
+    → opened_call strong (first_tag call handle) proxy.at view (ticket_of proxy view call) work ≡ o
+    → Begins strong proxy call key work view (option_map_or (enters proxy call handle key work (ticket_of proxy view call)) o (ends_at_once proxy call key work r.Outside))
+entering strong proxy call key work view handle None free is = at_once r.Outside refl refl
+entering strong proxy call key work view handle (Some taken) free is = lives handle taken free is refl
+
+chosen : (strong : Bool) (proxy : Proxy) (call : Call) (key : KeyId) (work : Work) (view : View) (b : Bool) (one other : Done Proxy)
+    → Begins strong proxy call key work view one → Begins strong proxy call key work view other → Begins strong proxy call key work view (if b then one else other)
+chosen strong proxy call key work view true one other f g = f
+chosen strong proxy call key work view false one other f g = g
+
+in_slot : (strong : Bool) (proxy : Proxy) (call : Call) (key : KeyId) (work : Work) (view : View) (o : Option Handle) → next_handle proxy.calls ≡ o
+    → Begins strong proxy call key work view (option_map_or (starts_in strong proxy call key work view) o (ends_at_once proxy call key work r.Full))
+in_slot strong proxy call key work view None is = at_once r.Full refl refl
+in_slot strong proxy call key work view (Some handle) is =
+    chosen strong proxy call key work view (draws_ticket work && (proxy.seen == 18446744073709551615)) (ends_at_once proxy call key work r.NumbersOut) (enters_with strong proxy call key work view handle)
+    (at_once r.NumbersOut refl refl) (entering strong proxy call key work view handle (opened_call strong (first_tag call handle) proxy.at view (ticket_of proxy view call) work) is refl)
+
+pub begins : (strong : Bool) (proxy : Proxy) (call : Call) (key : KeyId) (work : Work) (view : View) → Begins strong proxy call key work view (starts_as strong proxy call key work view)
+begins strong proxy call key work view =
+    chosen strong proxy call key work view (not (is_member work view proxy.at)) (ends_at_once proxy call key work r.Outside) (option_map_or (starts_in strong proxy call key work view) (next_handle proxy.calls) (ends_at_once proxy call key work r.Full))
+    (at_once r.Outside refl refl) (in_slot strong proxy call key work view (next_handle proxy.calls) refl)
+
+from_begins : (s : Store) (p : ℕ) (key : KeyId) (work : Work) (h : Happening) (d : Done Proxy) → p < length s.proxies → key.0 < length s.directory.sets → fits_mode (is_strong_key s key) work ≡ true
+    → Begins (is_strong_key s key) (proxy_at s p) (next_call s p) key work (view_at (proxy_at s p).views key) d → h ≡ did s p d → Happened s h
+from_begins s p key work h d lt known fits (at_once reply dead is) e = refused_at_once p key work reply lt dead (e ∙ ap (did s p) is)
+from_begins s p key work h d lt known fits (lives handle taken free first is) e =
+    started p key work (record { handle = handle; taken = taken; exists = lt; known = known; fits = fits; free = free; first = first; is = e ∙ ap (did s p) is })
+
+started_at : (s : Store) (p : ℕ) (key : KeyId) (work : Work) (h : Happening) → p < length s.proxies → start_at s p key work ≡ Ok h → Happened s h
+unfolding starts
+started_at s p key work h lt e =
+    let strong : Bool = is_strong_key s key in
+    let d : Done Proxy = starts_as (is_strong_key s key) (proxy_at s p) (next_call s p) key work (view_at (proxy_at s p).views key) in
+    let last : Outcome = proxy_did s p d in
+    let mode : Outcome = if not (fits_mode (is_strong_key s key) work) then Err WrongMode else last in
+    choose h (Happened s h) (not (nat_lt key.0 (length s.directory.sets))) (Err NoKey) mode (λ _ z. refused h (Happened s h) NoKey (Err NoKey) refl z)
+    (λ c z. choose h (Happened s h) (not (fits_mode (is_strong_key s key) work)) (Err WrongMode) last (λ _ y. refused h (Happened s h) WrongMode (Err WrongMode) refl y)
+    (λ b y. from_begins s p key work h d lt (within_is key.0 (length s.directory.sets) c) (not_false (fits_mode (is_strong_key s key) work) b) (begins (is_strong_key s key) (proxy_at s p) (next_call s p) key work (view_at (proxy_at s p).views key)) (sends_is (with_proxy s p d.actor) d.posts d.marks h y)) z) e
+
+starting : (s : Store) (p key : ℕ) (work : Work) (h : Happening) → start s p key work ≡ Ok h → Happened s h
+starting s p key work h e =
+    let at : KeyId = record { 0 = key } in
+    let last : Outcome = if (proxy_at s p).stopped then nothing s else start_at s p at work in
+    choose h (Happened s h) (not (nat_lt p (length s.proxies))) (Err NoActor) last (λ _ z. refused h (Happened s h) NoActor (Err NoActor) refl z)
+    (λ b z. choose h (Happened s h) (proxy_at s p).stopped (nothing s) (start_at s p at work) (λ _ y. ignored (ok_is (quietly s) h (nothing s) refl y)) (λ _ y. started_at s p at work h (within_is p (length s.proxies) b) y) z) e
+
+proxy_took : (s : Store) (p : ℕ) (message : Message) (h : Happening) (o : Option LiveCall) → Contains s.sent (record { to = to.Proxy p; message = message }) → item_at (learned (proxy_at s p) message).calls (handle_in message) ≡ o
+    → h ≡ did s p (option_map_or (call_takes (learned (proxy_at s p) message) message) o (only_learns (learned (proxy_at s p) message))) → Happened s h
+proxy_took s p message h None sent is e = proxy_learned p message sent e
+proxy_took s p message h (Some call) sent is e = call_took p message call (record { sent = sent; live = is; is = e })
+
+delivered_to : (s : Store) (a : Actor) (message : Message) (h : Happening) → Contains s.sent (record { to = a; message = message }) → deliver_to s a message ≡ Ok h → Happened s h
+unfolding proxy_takes
+delivered_to s (to.Replica d) message h sent e =
+    let st : (Step replica.State) = replica.step (replica_at s d).state message in
+    choose h (Happened s h) (replica_at s d).stopped (nothing s) (replica_takes s d message st) (λ _ y. ignored (ok_is (quietly s) h (nothing s) refl y))
+    (λ b y. replica_took d message (record { sent = sent; runs = b }) (sends_is (with_replica s d (record { stopped = false; state = st.state })) st.out.posts [] h y)) e
+delivered_to s to.Directory message h sent e =
+    let st : (Step State) = directory_step.step s.directory message in
+    directory_took message sent (sends_is (record s { directory = st.state }) st.out.posts [] h e)
+delivered_to s (to.Proxy p) message h sent e =
+    let d : Done Proxy = proxy_takes_as (learned (proxy_at s p) message) message in
+    choose h (Happened s h) (proxy_at s p).stopped (nothing s) (proxy_did s p d) (λ _ y. ignored (ok_is (quietly s) h (nothing s) refl y))
+    (λ _ y. proxy_took s p message h (item_at (learned (proxy_at s p) message).calls (handle_in message)) sent refl (sends_is (with_proxy s p d.actor) d.posts d.marks h y)) e
+
+-- what is found at a place is among them
+pub found_among : (posts : List Post) (n : ℕ) (post : Post) → slice_get posts n ≡ Some post → Contains posts post
+found_among posts n post e = (n, slice_get_within posts n post e, get_or_from_slice_get posts n post post e)
+
+delivering : (s : Store) (n : ℕ) (h : Happening) (o : Option Post) → slice_get s.sent n ≡ o → option_map_or (λ (post : Post). deliver_to s post.to post.message) o (Err (NoMessage (length s.sent))) ≡ Ok h → Happened s h
+delivering s n h None is e = refused h (Happened s h) (NoMessage (length s.sent)) (Err (NoMessage (length s.sent))) refl e
+delivering s n h (Some post) is e = delivered_to s post.to post.message h (found_among s.sent n post is) e
+
+giving : (s : Store) (p : ℕ) (handle : Handle) (h : Happening) (o : Option LiveCall) → item_at (proxy_at s p).calls handle ≡ o → option_map_or (gives_up s p handle) o (Err NoCall) ≡ Ok h → Happened s h
+giving s p handle h None is e = refused h (Happened s h) NoCall (Err NoCall) refl e
+giving s p handle h (Some call) is e =
+    let g : Happening = record { store = with_proxy s p (record (proxy_at s p) { calls = after_take (proxy_at s p).calls handle }); marks = k.End (tag_of_call call).call r.GivenUp ∷ []; posts = [] } in
+    choose h (Happened s h) (may_give_up call) (Ok g) (Err NoCall) (λ _ y. gave_up p handle call is (ok_is g h (Ok g) refl y)) (λ _ y. refused h (Happened s h) NoCall (Err NoCall) refl y) e
+
+giving_at : (s : Store) (p : ℕ) (h : Happening) (o : Option Handle) → option_map_or (give_up_under s p) o (Err NoCall) ≡ Ok h → Happened s h
+giving_at s p h None e = refused h (Happened s h) NoCall (Err NoCall) refl e
+giving_at s p h (Some handle) e = giving s p handle h (item_at (proxy_at s p).calls handle) refl e
+
+giving_up : (s : Store) (p seq : ℕ) (h : Happening) → give_up s p seq ≡ Ok h → Happened s h
+giving_up s p seq h e =
+    let at : Outcome = option_map_or (give_up_under s p) (handle_of_call (proxy_at s p).calls seq) (Err NoCall) in
+    let last : Outcome = if (proxy_at s p).stopped then nothing s else at in
+    choose h (Happened s h) (not (nat_lt p (length s.proxies))) (Err NoActor) last (λ _ z. refused h (Happened s h) NoActor (Err NoActor) refl z)
+    (λ _ z. choose h (Happened s h) (proxy_at s p).stopped (nothing s) at (λ _ y. ignored (ok_is (quietly s) h (nothing s) refl y)) (λ _ y. giving_at s p h (handle_of_call (proxy_at s p).calls seq) y) z) e
+
+no_epoch : (s : Store) (h : Happening) (wrong : PublishFault) → opens_none s wrong ≡ Ok h → Happened s h
+no_epoch s h (fault.MissingSet set) e = let g : Happening = record { store = s; marks = k.NoEpoch (cause.MissingSet set) ∷ []; posts = [] } in not_published (cause.MissingSet set) (ok_is g h (Ok g) refl e)
+no_epoch s h (fault.NotQuorum set) e = let g : Happening = record { store = s; marks = k.NoEpoch (cause.NotQuorum set) ∷ []; posts = [] } in not_published (cause.NotQuorum set) (ok_is g h (Ok g) refl e)
+no_epoch s h _ e = ignored (ok_is (quietly s) h (nothing s) refl e)
+
+judging : (s : Store) (table : List SetPolicy) (h : Happening) (o : Option PublishFault) → table_fault s.directory table ≡ o
+    → option_map_or (opens_none s) o (as_outcome (record { store = record s { directory = after_publish s.directory table }; marks = k.Epoch (latest s.directory + 1) ∷ []; posts = [] })) ≡ Ok h → Happened s h
+unfolding as_outcome
+judging s table h None is e =
+    let g : Happening = record { store = record s { directory = after_publish s.directory table }; marks = k.Epoch (latest s.directory + 1) ∷ []; posts = [] } in
+    published table is (ok_is g h (Ok g) refl e)
+judging s table h (Some wrong) is e = no_epoch s h wrong e
+
+pub happened : (s : Store) (event : Event) (h : Happening) → step s event ≡ Ok h → Happened s h
+unfolding step as_outcome
+happened s (Start p key work) h e = starting s p key work h e
+happened s (Deliver n) h e = delivering s n h (slice_get s.sent n) refl e
+happened s (StopReplica d) h e =
+    let g : Store = with_replica s d (record { stopped = true; state = (replica_at s d).state }) in
+    choose h (Happened s h) (not (nat_lt d (length s.replicas))) (Err NoActor) (nothing g) (λ _ y. refused h (Happened s h) NoActor (Err NoActor) refl y) (λ _ y. replica_stopped d (ok_is (quietly g) h (nothing g) refl y)) e
+happened s (StopProxy p) h e =
+    let g : Store = with_proxy s p (record (proxy_at s p) { stopped = true }) in
+    choose h (Happened s h) (not (nat_lt p (length s.proxies))) (Err NoActor) (nothing g) (λ _ y. refused h (Happened s h) NoActor (Err NoActor) refl y) (λ _ y. proxy_stopped p (ok_is (quietly g) h (nothing g) refl y)) e
+happened s (GiveUp p seq) h e = giving_up s p seq h e
+happened s (Publish table) h e =
+    choose h (Happened s h) (latest s.directory == 1000) (Err (Limit Epochs 1001)) (judged s table) (λ _ y. refused h (Happened s h) (Limit Epochs 1001) (Err (Limit Epochs 1001)) refl y) (λ _ y. judging s table h (table_fault s.directory table) refl y) e

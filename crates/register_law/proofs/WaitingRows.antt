@@ -1,0 +1,96 @@
+-- Writes that wait: in the first phase with one Yes of three, in the second one once two said Yes, and for a Here once two were Gone.
+use Rattle.std.proofs.Common.{ℕ, List, [], ◌∷◌, ◌++◌, refl, arith}
+use Rattle.std.specs.Prelude.{false, None}
+use Rattle.span_base.specs.declared.dc_set.DcSet.{DcSet}
+use Rattle.span_base.specs.DcSet.{no_centre, centres_of, centres_below}
+use Rattle.ticket_rules.specs.Stamp.{stamp_zero}
+use Rattle.strong_proxy.specs.declared.progress.Stage.{Stage}
+use Rattle.strong_proxy.specs.declared.progress.Stage.TheVariants.{First, Second, Looking}
+use Rattle.strong_proxy.specs.declared.state.Work.TheVariants.{ToWrite}
+use Rattle.strong_proxy.specs.declared.state.CallState.{CallState}
+use Rattle.strong_proxy.specs.Rule.{step as strong_step, opened_as}
+use Rattle.epoch_directory.specs.Tables.{table_fault}
+use Rattle.migration.specs.Move.{step as move_step}
+use Rattle.run_marks.specs.declared.mark.Work.TheVariants as w
+use Rattle.world_core.specs.declared.event.Event.{Event}
+use Rattle.world_core.specs.declared.event.Event.TheVariants.{Start}
+use Rattle.world_core.specs.State.{opening}
+use Rattle.world_core.specs.Starting.{starts}
+use Rattle.world_core.specs.Step.{proxy_takes, step}
+use Rattle.world_core.specs.Run.{run, run_of}
+use Rattle.world_core.specs.Rows.{two_proxies, deliveries, three, member, hi, cc_value, again, call, key, dc, stamp}
+use Rattle.register_law.specs.Waiting.{IsWaiting}
+use Rattle.register_law.specs.WaitingRows.{one_yes, two_yes, two_gone}
+
+-- in this phase, these having said Yes
+abbrev writing : Stage → ℕ → DcSet → CallState
+writing stage phase good = record {
+  work = ToWrite hi;
+  best = None;
+  progress = record {
+    key = key 0;
+    at = dc 0;
+    leg = record { epoch = 1; f = 1; reads = three; writes = three; ticket = stamp 1 1 0 1 };
+    stage = stage;
+    phase = record { tag = record { call = call 0 1; slot = 0; generation = 1; phase = phase }; asked = three; good = good; bad = no_centre };
+    lookups = 0;
+    top_mark = stamp_zero;
+    had_gone = false;
+    top_gone = 0;
+    top_held = stamp_zero;
+  };
+}
+
+pub waits_for_a_second : IsWaiting (key 0) (run_of two_proxies one_yes).store (call 0 1) (w.Write hi)
+unfolding run step starts proxy_takes opening strong_step opened_as centres_of centres_below
+waits_for_a_second = record {
+  handle = record { slot = 0; generation = 1 };
+  state = writing First 1 (record { bits = 1 });
+  live = record { live = refl; at_key = refl };
+  of = refl;
+  work = refl;
+  quorum = record { member = member 0; is_member = refl; tolerance = refl; asked = refl };
+  waits = record { few_good = omega arith; few_bad = omega arith };
+}
+
+pub waits_for_its_stores : IsWaiting (key 0) (run_of two_proxies two_yes).store (call 0 1) (w.Write hi)
+unfolding run step starts proxy_takes opening strong_step opened_as centres_of centres_below
+waits_for_its_stores = record {
+  handle = record { slot = 0; generation = 1 };
+  state = writing Second 2 no_centre;
+  live = record { live = refl; at_key = refl };
+  of = refl;
+  work = refl;
+  quorum = record { member = member 0; is_member = refl; tolerance = refl; asked = refl };
+  waits = record { few_good = omega arith; few_bad = omega arith };
+}
+
+abbrev looking : CallState
+looking = record {
+  work = ToWrite cc_value;
+  best = None;
+  progress = record {
+    key = key 0;
+    at = dc 1;
+    leg = record { epoch = 1; f = 1; reads = three; writes = three; ticket = stamp 1 1 1 1 };
+    stage = Looking;
+    phase = record { tag = record { call = call 1 1; slot = 0; generation = 1; phase = 2 }; asked = no_centre; good = no_centre; bad = no_centre };
+    lookups = 1;
+    top_mark = stamp_zero;
+    had_gone = false;
+    top_gone = 1;
+    top_held = stamp_zero;
+  };
+}
+
+pub waits_for_a_here : IsWaiting (key 0) (run_of two_proxies two_gone).store (call 1 1) (w.Write cc_value)
+unfolding run step starts proxy_takes opening strong_step opened_as centres_of centres_below move_step table_fault
+waits_for_a_here = record {
+  handle = record { slot = 0; generation = 1 };
+  state = looking;
+  live = record { live = refl; at_key = refl };
+  of = refl;
+  work = refl;
+  quorum = record { member = member 1; is_member = refl; tolerance = refl; asked = tt };
+  waits = tt;
+}

@@ -1,0 +1,13 @@
+pub mod Ghost
+pub mod Seen
+pub mod Tags
+pub mod Live
+pub mod Sent
+pub mod Replicas
+pub mod Legs
+pub mod Ends
+pub mod Cases
+pub mod Invariant
+pub mod Waiting
+pub mod WaitingPhases
+pub mod WaitingRows
