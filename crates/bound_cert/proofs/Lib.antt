@@ -12,3 +12,4 @@ pub mod Faults
 pub mod Lines
 pub mod OneReading
 pub mod NoFault
+pub mod Pieces

@@ -1,4 +1,4 @@
-use Rattle.std.specs.Prelude.{ℕ, ◌<◌, ◌^◌, List, [], ◌∷◌, ◌++◌, codes, All}
+use Rattle.std.specs.Prelude.{ℕ, ◌≡◌, ◌<◌, ◌^◌, List, [], ◌∷◌, ◌++◌, take, codes, All}
 use Rattle.std.specs.Fmt.{decimal}
 use Rattle.bound_cert.specs.declared.leaves.Pair.{Pair}
 use Rattle.bound_cert.specs.declared.leaves.Line.{Line}
@@ -26,3 +26,7 @@ IsSpelled pair = pair.mult < 10 ^ 38
 abbrev pub HasShortMultipliers : Line → Type 0
 HasShortMultipliers (Branch var) = Unit {0}
 HasShortMultipliers (Close end) = All IsSpelled end.pairs
+
+-- the bytes are the old ones and then a front of this piece
+abbrev pub AddsFront : List ℕ → List ℕ → List ℕ → Type 0
+AddsFront old new piece = (n : ℕ) × (new ≡ old ++ take n piece)
