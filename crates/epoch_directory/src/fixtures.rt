@@ -9,17 +9,11 @@ ghost use Rattle.epoch_directory.specs.Step.{HasItsKey};
 
 use crate::directory::Directory;
 use crate::table::{KeySet, PublishFault, SetPolicy};
-use span_base::{Call, DcId, DcSet, KeyId, Listed, Near, Policy, Quorum, SetId, is_sound};
+use span_base::{DcId, DcSet, KeyId, Listed, Near, Policy, Quorum, SetId, is_sound};
 use std::alloc::{AllocError, Global};
 use std::process::Abort;
-use wire_msg::{Actor, Message, Outputs, Post, Tag};
-
-pub(crate) const TAG: Tag = Tag {
-    call: Call { proxy: 5, seq: 7 },
-    slot: 2,
-    generation: 3,
-    phase: 1,
-};
+use store_fixtures::tag;
+use wire_msg::{Actor, Message, Outputs, Post};
 
 /// What a table says of a set.
 #[derive(Clone, Copy)]
@@ -215,7 +209,7 @@ fn answer_to(
     let Some(Post { to, message }) = posts.pop() else {
         panic!(rt; "no answer")
     };
-    assert_eq!(rt; to, Actor::Proxy(5));
+    assert_eq!(rt; to, Actor::Proxy(3));
     Ok(message)
 }
 
@@ -227,7 +221,7 @@ pub(crate) fn look_up(
 ) -> Result<Message, AllocError> {
     assert!(rt; key < directory.keys());
     let message = Message::Lookup {
-        tag: TAG,
+        tag: tag(1),
         key: KeyId(key),
     };
     answer_to(rt, alloc, directory, &message)
@@ -243,7 +237,7 @@ pub(crate) fn switch(
 ) -> Result<Message, AllocError> {
     assert!(rt; 1 <= closing && 1 <= opening && directory.keys() > 0);
     let message = Message::Switch {
-        tag: TAG,
+        tag: tag(1),
         key: KeyId(0),
         closing,
         opening,

@@ -1,8 +1,9 @@
 //! What a directory of two strong sets and a direct one answers, and how tables end.
-use crate::fixtures::{Line, TAG, direct_directory, directory, look_up, publish, strong, switch};
+use crate::fixtures::{Line, direct_directory, directory, look_up, publish, strong, switch};
 use crate::table::PublishFault;
 use span_base::{KeyId, SetId};
 use std::test::Fail;
+use store_fixtures::tag;
 use wire_msg::Message;
 
 fn missing(number: u16) -> Result<u32, PublishFault> {
@@ -38,7 +39,7 @@ fn a_key_is_looked_up_and_switched(rt: HostRuntime) -> Result<(), Fail> {
     let lines = [Line::Strong(3), Line::Strong(4)];
     assert_eq!(rt; publish(&rt, alloc, &mut directory, &lines), Ok(2));
     let told = Message::Here {
-        tag: TAG,
+        tag: tag(1),
         key: KeyId(0),
         epoch: 1,
         policy: strong(&rt, alloc, 0)?,
@@ -49,7 +50,7 @@ fn a_key_is_looked_up_and_switched(rt: HostRuntime) -> Result<(), Fail> {
     // The first of two equal switches is done; epoch 3 isn't published.
     for (closing, opening, done, epoch) in [(1, 3, false, 1), (1, 2, true, 2), (1, 2, false, 2)] {
         let told = Message::Switched {
-            tag: TAG,
+            tag: tag(1),
             key: KeyId(0),
             done,
             epoch,

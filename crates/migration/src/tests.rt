@@ -1,13 +1,14 @@
-ghost use Rattle.std.specs.Prelude.{◌≡◌, ◌≤◌, IfOk};
+ghost use Rattle.std.specs.Prelude.{IfOk};
 ghost use Rattle.span_base.specs.Policy.{IsSoundPolicy};
-ghost use Rattle.wire_msg.specs.Lawful.{IsLawful, IsLawfulTag};
+ghost use Rattle.wire_msg.specs.Lawful.{IsLawful};
 
 use crate::{EventualMove, MoveCall, MoveRule, StrongMove};
-use span_base::{Call, DcId, DcSet, KeyId, Listed, Near, Policy, Quorum, Value, is_sound};
+use span_base::{Policy, Value};
 use std::alloc::{AllocError, Global};
 use std::test::Fail;
+use store_fixtures::{KEY, direct_policy, gone, have, here, quorum_policy, tag, yes};
 use ticket_rules::Stamp;
-use wire_msg::{Message, Outputs, Reply, Tag};
+use wire_msg::{Message, Outputs, Reply};
 
 /// What a move takes.
 #[derive(Clone, Copy, Debug)]
@@ -34,104 +35,44 @@ struct Outcome {
     end: u8,
 }
 
-fn tag(phase: u8) -> Tag
-    requires { 1 ≤ phase }
-    ensures lawful { IsLawfulTag result }
-    ensures phase { result.phase ≡ phase }
-{
-    Tag {
-        call: Call { proxy: 3, seq: 7 },
-        slot: 2,
-        generation: 5,
-        phase,
-    }
-}
-
 /// One member and the replicas 0, 1 and 2, of which one may fail.
 fn policy(alloc: Global, is_strong: bool) -> Result<Policy, AllocError>
     ensures { IfOk result IsSoundPolicy }
 {
-    let policy = if is_strong {
-        strong(alloc)?
+    if is_strong {
+        quorum_policy(alloc, 0)
     } else {
-        eventual(alloc)?
-    };
-    if is_sound(&policy) {
-        Ok(policy)
-    } else {
-        Err(AllocError)
+        direct_policy(alloc)
     }
 }
 
-fn strong(alloc: Global) -> Result<Policy, AllocError> {
-    let all = DcSet::from_bits(7);
-    let member = Quorum {
-        dc: DcId(0),
-        read: all,
-        write: all,
-    };
-    Ok(Policy::Strong {
-        f: 1,
-        replicas: all,
-        members: Listed::from_vec(Vec::from_array(alloc, [member])?),
-    })
-}
-
-fn eventual(alloc: Global) -> Result<Policy, AllocError> {
-    let near = Near {
-        member: DcId(0),
-        at: DcId(0),
-    };
-    Ok(Policy::Direct {
-        f: 1,
-        replicas: DcSet::from_bits(7),
-        primary: Listed::from_vec(Vec::from_array(alloc, [near])?),
-    })
-}
-
-fn here(alloc: Global, is_strong: bool, latest_epoch: u32) -> Result<Message, AllocError>
-    ensures { IfOk result IsLawful }
-{
-    Ok(Message::Here {
-        tag: tag(1),
-        key: KeyId(9),
-        epoch: 1,
-        policy: policy(alloc, is_strong)?,
-        latest_epoch: latest_epoch.max(1),
-        latest_policy: policy(alloc, is_strong)?,
-    })
-}
-
-/// The message of a step, with a replica below 16; a frozen replica has the empty value that it
-/// opened with.
+/// The message of a step; a frozen replica has the empty value that it opened with.
 fn message(alloc: Global, is_strong: bool, step: Step) -> Result<Message, AllocError>
     ensures { IfOk result IsLawful }
 {
     Ok(match step {
         Step::Start => Message::Lookup {
             tag: tag(1),
-            key: KeyId(9),
+            key: KEY,
         },
-        Step::Here(latest) => here(alloc, is_strong, latest)?,
-        Step::Have(replica) => Message::Have {
-            tag: tag(2),
-            replica: DcId(replica % 16),
-            version: Stamp::zero(),
-            mark: Stamp::zero(),
-            value: Value::empty(alloc),
-        },
-        Step::Yes(replica) => Message::Yes {
-            tag: tag(3),
-            replica: DcId(replica % 16),
-        },
-        Step::Gone(replica, epoch) => Message::Gone {
-            tag: tag(3),
-            replica: DcId(replica % 16),
-            epoch,
-        },
+        Step::Here(latest) => {
+            let current = policy(alloc, is_strong)?;
+            here(1, 1, current, latest, policy(alloc, is_strong)?)
+        }
+        Step::Have(replica) => {
+            have(
+                2,
+                replica,
+                Stamp::zero(),
+                Stamp::zero(),
+                Value::empty(alloc),
+            )
+        }
+        Step::Yes(replica) => yes(3, replica),
+        Step::Gone(replica, epoch) => gone(3, replica, epoch),
         Step::Switched(done) => Message::Switched {
             tag: tag(4),
-            key: KeyId(9),
+            key: KEY,
             done,
             epoch: 3,
         },
@@ -172,7 +113,7 @@ fn take<R: MoveRule + Drop>(
 ) -> Result<Outcome, AllocError> {
     let mut out = Outputs::make(alloc);
     if let Step::Start = step {
-        *call = MoveCall::start(alloc, tag(1), KeyId(9), &mut out)?;
+        *call = MoveCall::start(alloc, tag(1), KEY, &mut out)?;
     } else {
         call.take(alloc, &message(alloc, is_strong, step)?, &mut out)?;
     }
@@ -182,7 +123,7 @@ fn take<R: MoveRule + Drop>(
 #[test]
 fn strong_moves_go_their_ways(rt: HostRuntime) -> Result<(), Fail> {
     let alloc = rt.alloc();
-    let mut call = StrongMove::start(alloc, tag(1), KeyId(9), &mut Outputs::make(alloc))?;
+    let mut call = StrongMove::start(alloc, tag(1), KEY, &mut Outputs::make(alloc))?;
     for (step, first, posts, end) in [
         (Step::Start, b'L', 1, b'-'),
         (Step::Here(1), b'-', 0, b'C'),
@@ -210,7 +151,7 @@ fn strong_moves_go_their_ways(rt: HostRuntime) -> Result<(), Fail> {
 #[test]
 fn eventual_moves_go_their_ways(rt: HostRuntime) -> Result<(), Fail> {
     let alloc = rt.alloc();
-    let mut call = EventualMove::start(alloc, tag(1), KeyId(9), &mut Outputs::make(alloc))?;
+    let mut call = EventualMove::start(alloc, tag(1), KEY, &mut Outputs::make(alloc))?;
     for (step, first, posts, end) in [
         (Step::Here(2), b'F', 3, b'-'),
         (Step::Have(0), b'-', 0, b'-'),

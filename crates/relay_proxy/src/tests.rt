@@ -5,33 +5,12 @@ ghost use Rattle.span_base.specs.PolicyParts.{primary_of};
 ghost use Rattle.wire_msg.specs.Lawful.{IsLawful, IsLawfulView};
 
 use crate::EventualCall;
-use span_base::{Call, DcId, DcSet, Hop, KeyId, Listed, Near, Policy, Value, is_sound};
+use span_base::{DcId, DcSet, Hop, Listed, Near, Policy, Value, is_sound};
 use std::alloc::{AllocError, Global};
 use std::process::Abort;
 use std::test::Fail;
-use ticket_rules::Stamp;
-use wire_msg::{Actor, Message, Outputs, Post, Reply, Tag, View};
-
-const TAG: Tag = Tag {
-    call: Call { proxy: 3, seq: 7 },
-    slot: 5,
-    generation: 2,
-    phase: 1,
-};
-
-const LATER: Tag = Tag {
-    call: Call { proxy: 3, seq: 7 },
-    slot: 5,
-    generation: 2,
-    phase: 2,
-};
-
-const STAMP: Stamp = Stamp {
-    epoch: 4,
-    number: 9,
-    proxy: 3,
-    seq: 7,
-};
+use store_fixtures::{KEY, gone, have, tag, ticket, yes};
+use wire_msg::{Actor, Message, Outputs, Post, Reply, View};
 
 /// Replicas 1 and 2, of which none may stop. The member 0 reads at 1 and writes to 1, which passes
 /// its writes on to 2.
@@ -61,7 +40,7 @@ fn two_replicas(alloc: Global, rt: &impl Abort) -> Result<View, AllocError>
     };
     assert!(rt; is_sound(&policy));
     Ok(View {
-        key: KeyId(8),
+        key: KEY,
         epoch: 4,
         policy,
     })
@@ -100,11 +79,11 @@ fn begin(alloc: Global, view: &View, work: Work) -> Result<EventualCall, AllocEr
     let at = DcId(0);
     let mut out = Outputs::make(alloc);
     match work {
-        Work::Get => EventualCall::get(alloc, TAG, at, view, false, &mut out),
-        Work::GetAny => EventualCall::get(alloc, TAG, at, view, true, &mut out),
+        Work::Get => EventualCall::get(alloc, tag(1), at, view, false, &mut out),
+        Work::GetAny => EventualCall::get(alloc, tag(1), at, view, true, &mut out),
         Work::Put => {
             let value = Value::empty(alloc);
-            EventualCall::put(alloc, TAG, at, view, STAMP, &value, &mut out)
+            EventualCall::put(alloc, tag(1), at, view, ticket(4, 9), &value, &mut out)
         }
     }
 }
@@ -113,22 +92,9 @@ fn message(alloc: Global, heard: Heard) -> Message
     ensures { IsLawful result }
 {
     match heard {
-        Heard::Have => Message::Have {
-            tag: TAG,
-            replica: DcId(1),
-            version: STAMP,
-            mark: STAMP,
-            value: Value::empty(alloc),
-        },
-        Heard::Yes(replica) => Message::Yes {
-            tag: TAG,
-            replica: DcId(replica.min(15)),
-        },
-        Heard::Gone(replica, epoch) => Message::Gone {
-            tag: TAG,
-            replica: DcId(replica.min(15)),
-            epoch,
-        },
+        Heard::Have => have(1, 1, ticket(4, 9), ticket(4, 9), Value::empty(alloc)),
+        Heard::Yes(replica) => yes(1, replica),
+        Heard::Gone(replica, epoch) => gone(1, replica, epoch),
     }
 }
 
@@ -144,16 +110,18 @@ fn outputs(alloc: Global, end: End) -> Result<Outputs, AllocError> {
     out.end = match end {
         End::Not => None,
         End::Value => Some(Reply::Value {
-            stamp: STAMP,
+            stamp: ticket(4, 9),
             value: Value::empty(alloc),
         }),
-        End::Stored => Some(Reply::Stored { stamp: STAMP }),
+        End::Stored => Some(Reply::Stored {
+            stamp: ticket(4, 9),
+        }),
         End::Moved(epoch) => {
             out.posts.push(Post {
                 to: Actor::Directory,
                 message: Message::Lookup {
-                    tag: LATER,
-                    key: KeyId(8),
+                    tag: tag(2),
+                    key: KEY,
                 },
             })?;
             Some(Reply::Moved { epoch })

@@ -1,26 +1,18 @@
 //! What the tests share: messages to replica 5 on its one key, written short, and its answers. All
-//! are of one tag, and each stamp is of epoch 2.
+//! are of phase 4 of one call, and each stamp is of epoch 2.
 
-ghost use Rattle.std.specs.Prelude.{◌≡◌, ◌≤◌, length, IfOk, IfSome};
+ghost use Rattle.std.specs.Prelude.{◌≡◌, ◌<◌, ◌≤◌, length, IfOk, IfSome};
 ghost use Rattle.wire_msg.specs.Lawful.{IsLawful};
 ghost use Rattle.replica_core.specs.Rule.{request_key};
 
 use super::*;
-use span_base::{Call, DcId, DcSet, KeyId, Listed, Value};
+use span_base::{DcSet, KeyId, Listed, Value};
 use std::alloc::{AllocError, Global};
+use store_fixtures::{centre, gone, have, held, tag, ticket, value, yes};
 use ticket_rules::Stamp;
-use wire_msg::{Message, Outputs, Post, Tag};
-
-pub const TAG: Tag = Tag {
-    call: Call { proxy: 3, seq: 7 },
-    slot: 2,
-    generation: 1,
-    phase: 4,
-};
+use wire_msg::{Message, Outputs, Post};
 
 pub const KEY: KeyId = KeyId(0);
-
-pub const FIVE: DcId = DcId(5);
 
 /// A message by its epoch, the number of its stamp, and its value's one byte.
 #[derive(Clone, Copy)]
@@ -52,23 +44,13 @@ pub enum Told {
 
 /// The stamp of this number, and stamp zero of 0.
 pub fn stamp(number: u64) -> Stamp
-    ensures { result.proxy ≤ 3 }
+    ensures { result.proxy < 64 }
 {
     if number == 0 {
-        return Stamp::zero();
+        Stamp::zero()
+    } else {
+        ticket(2, number)
     }
-    Stamp {
-        epoch: 2,
-        number,
-        proxy: 3,
-        seq: 7,
-    }
-}
-
-pub fn text(alloc: Global, byte: u8) -> Result<Value, AllocError>
-    ensures { IfOk result (λ value. length value ≡ 1) }
-{
-    Ok(Value::from_vec(Vec::from_slice(alloc, &[byte])?))
 }
 
 /// Epochs are counted from 1.
@@ -85,47 +67,50 @@ pub fn message(alloc: Global, asked: Asked) -> Result<Message, AllocError>
 {
     Ok(match asked {
         Asked::Read(epoch) => Message::Read {
-            tag: TAG,
+            tag: tag(4),
             key: KEY,
             epoch: epoch_from(epoch),
         },
         Asked::Ask(number) => Message::Ask {
-            tag: TAG,
+            tag: tag(4),
             key: KEY,
             stamp: stamp(number),
         },
         Asked::Store(number, byte) => Message::Store {
-            tag: TAG,
+            tag: tag(4),
             key: KEY,
             stamp: stamp(number),
-            value: text(alloc, byte)?,
+            value: value(alloc, byte)?,
         },
         Asked::Repair(number, byte) => Message::Repair {
-            tag: TAG,
+            tag: tag(4),
             key: KEY,
             epoch: 2,
             stamp: stamp(number),
-            value: text(alloc, byte)?,
+            value: value(alloc, byte)?,
         },
         Asked::Confirm(number) => Message::Confirm {
-            tag: TAG,
+            tag: tag(4),
             key: KEY,
             stamp: stamp(number),
         },
         Asked::Freeze(epoch) => Message::Freeze {
-            tag: TAG,
+            tag: tag(4),
             key: KEY,
             epoch: epoch_from(epoch),
         },
         Asked::Seed(number, byte) => Message::Seed {
-            tag: TAG,
+            tag: tag(4),
             key: KEY,
             epoch: 2,
             stamp: stamp(number),
-            value: text(alloc, byte)?,
+            value: value(alloc, byte)?,
         },
         Asked::Push(number, byte) => push(alloc, number, byte, DcSet::empty())?,
-        Asked::Other => yes(),
+        Asked::Other => Message::Yes {
+            tag: tag(4),
+            replica: centre(5),
+        },
     })
 }
 
@@ -134,52 +119,24 @@ pub fn push(alloc: Global, number: u64, byte: u8, onward: DcSet) -> Result<Messa
     ensures key { IfOk result (λ message. IfSome (request_key message) (λ key. key.0 ≡ 0)) }
 {
     Ok(Message::Push {
-        tag: TAG,
+        tag: tag(4),
         key: KEY,
         stamp: stamp(number),
         onward,
-        value: text(alloc, byte)?,
+        value: value(alloc, byte)?,
     })
-}
-
-pub fn yes() -> Message
-    ensures lawful { IsLawful result }
-    ensures key { IfSome (request_key result) (λ key. key.0 ≡ 0) }
-{
-    Message::Yes {
-        tag: TAG,
-        replica: FIVE,
-    }
 }
 
 /// The answer, where there is one.
 pub fn answer(alloc: Global, told: Told) -> Result<Option<Message>, AllocError> {
     Ok(Some(match told {
-        Told::Have(version, byte, mark) => Message::Have {
-            tag: TAG,
-            replica: FIVE,
-            version: stamp(version),
-            mark: stamp(mark),
-            value: text(alloc, byte)?,
-        },
-        Told::Empty(mark) => Message::Have {
-            tag: TAG,
-            replica: FIVE,
-            version: Stamp::zero(),
-            mark: stamp(mark),
-            value: Value::empty(alloc),
-        },
-        Told::Yes => yes(),
-        Told::Held(number) => Message::Held {
-            tag: TAG,
-            replica: FIVE,
-            stamp: stamp(number),
-        },
-        Told::Gone(epoch) => Message::Gone {
-            tag: TAG,
-            replica: FIVE,
-            epoch,
-        },
+        Told::Have(version, byte, mark) => {
+            have(4, 5, stamp(version), stamp(mark), value(alloc, byte)?)
+        }
+        Told::Empty(mark) => have(4, 5, Stamp::zero(), stamp(mark), Value::empty(alloc)),
+        Told::Yes => yes(4, 5),
+        Told::Held(number) => held(4, 5, stamp(number)),
+        Told::Gone(epoch) => gone(4, 5, epoch),
         Told::Nothing => return Ok(None),
     }))
 }

@@ -7,6 +7,7 @@ use super::*;
 use span_base::{DcSet, Listed};
 use std::alloc::Global;
 use std::test::Fail;
+use store_fixtures::yes;
 use wire_msg::{Actor, Message, Post};
 
 /// The replica after two messages.
@@ -104,7 +105,7 @@ fn pushes_on(alloc: Global) -> Result<bool, TakeFault> {
     let onward = message(alloc, Asked::Push(8, b'p'))?;
     match posts.as_slice() {
         [first, second, third] => Ok(
-            is_post(first, Actor::Proxy(3), &yes())
+            is_post(first, Actor::Proxy(3), &yes(4, 5))
                 && is_post(second, Actor::Replica(2), &onward)
                 && is_post(third, Actor::Replica(9), &onward)
                 && bulk.posts == 3

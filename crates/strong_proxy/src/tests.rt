@@ -1,15 +1,15 @@
 //! How calls go, by hand: what a call puts out for the last of its answers. Its replicas are 0, 1
 //! and 2, of which one may stop; its write stores 65 under the ticket of number 4.
 
-ghost use Rattle.std.specs.Prelude.{IfOk};
-ghost use Rattle.wire_msg.specs.Lawful.{IsLawful};
+ghost use Rattle.wire_msg.specs.Lawful.{IsLawful, IsLawfulView};
 
 use super::fixtures::*;
 use super::*;
-use span_base::{DcId, Listed, is_sound};
+use span_base::{DcId, Listed};
 use std::alloc::{AllocError, Global};
 use std::process::Abort;
 use std::test::Fail;
+use store_fixtures::{KEY, other_stamp, tag, ticket, value};
 use wire_msg::{Actor, Message, Outputs, Post, Reply, View};
 
 /// What is put out: to each replica, or to the directory.
@@ -56,7 +56,7 @@ fn message_of(alloc: Global, sent: Sent) -> Result<Option<Message>, AllocError> 
             tag: tag(2),
             key: KEY,
             epoch: 1,
-            stamp: stamp(number),
+            stamp: other_stamp(number),
             value: value(alloc, number)?,
         },
         Sent::Store => Message::Store {
@@ -81,14 +81,14 @@ fn reply_of(alloc: Global, end: End) -> Result<Option<Reply>, AllocError> {
     Ok(Some(match end {
         End::Not => return Ok(None),
         End::Value(number) => Reply::Value {
-            stamp: stamp(number),
+            stamp: other_stamp(number),
             value: value(alloc, number)?,
         },
         End::Stored => Reply::Stored {
             stamp: ticket(1, 4),
         },
         End::Fenced(number) => Reply::Fenced {
-            held: stamp(number),
+            held: other_stamp(number),
         },
         End::Unsure => Reply::Unsure,
         End::Moved(epoch) => Reply::Moved { epoch },
@@ -123,7 +123,6 @@ fn begin(
     out: &mut Outputs,
 ) -> Result<StrongCall, AllocError> {
     let view = view_of(alloc, 1, 0)?;
-    assert!(rt; is_sound(&view.policy) && view.epoch > 0 && view.key.0 < 1000);
     assert!(rt; view.policy.member(DcId(0)).is_some());
     *out = Outputs::make(alloc);
     if is_read {
@@ -142,9 +141,9 @@ fn take(
     message: &Message,
     view: &View,
 ) -> Result<Outputs, AllocError>
-    requires { IsLawful message.now }
+    requires message { IsLawful message.now }
+    requires view { IsLawfulView view.now }
 {
-    assert!(rt; is_sound(&view.policy) && view.epoch > 0 && view.key.0 < 1000);
     assert!(rt; view.key.0 == call.key().0);
     let bulk = call.bulk(message, view, 10);
     let mut out = Outputs::make(alloc);
@@ -153,53 +152,17 @@ fn take(
     Ok(out)
 }
 
-/// What the directory tells where an epoch with this one member is the latest and current.
-fn here(
-    rt: &impl Abort,
-    alloc: Global,
-    phase: u8,
-    epoch: u32,
-    member: u8,
-) -> Result<Message, AllocError>
-    ensures { IfOk result IsLawful }
-{
-    let policy = policy_of(alloc, member)?;
-    let latest_policy = policy_of(alloc, member)?;
-    assert!(rt; is_sound(&policy));
-    assert!(rt; is_sound(&latest_policy));
-    assert!(rt; epoch > 0);
-    Ok(Message::Here {
-        tag: tag(phase),
-        key: KEY,
-        epoch,
-        policy,
-        latest_epoch: epoch,
-        latest_policy,
-    })
-}
-
 fn tell(
     rt: &impl Abort,
     alloc: Global,
     call: &mut StrongCall,
     heard: Heard,
 ) -> Result<Outputs, AllocError> {
-    match heard {
-        Heard::Here(phase, epoch, member) => take(
-            rt,
-            alloc,
-            call,
-            &here(rt, alloc, phase, epoch, member)?,
-            &view_of(alloc, epoch, member)?,
-        ),
-        _ => take(
-            rt,
-            alloc,
-            call,
-            &answer(alloc, heard)?,
-            &view_of(alloc, 1, 0)?,
-        ),
-    }
+    let view = match heard {
+        Heard::Here(_, epoch, member) => view_of(alloc, epoch, member)?,
+        _ => view_of(alloc, 1, 0)?,
+    };
+    take(rt, alloc, call, &answer(alloc, heard)?, &view)
 }
 
 /// Whether the last of the answers makes the call put out this, and end so.
