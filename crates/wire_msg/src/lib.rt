@@ -21,7 +21,7 @@ mod writer;
 
 pub use actor::{Actor, node_of};
 pub use decoding::decode;
-pub use encoding::encode;
+pub use encoding::{encode, write_frame};
 pub use fault::FrameFault;
 pub use lengths::{frame_len, policy_len};
 pub use message::Message;

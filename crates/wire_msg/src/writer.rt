@@ -1,94 +1,113 @@
-ghost use Rattle.std.specs.Prelude.{if◌then◌else◌};
+//! The fields of frames. Each is written behind what stands there, into memory that is there: no
+//! write asks for more.
+
+ghost use Rattle.std.specs.Prelude.{◌+◌, ◌<◌, ◌≤◌, ◌^◌, [], ◌∷◌, length, vec_len, vec_capacity, if◌then◌else◌};
 ghost use Rattle.std.specs.Int.{w8, w16, w32, w64};
-ghost use Rattle.wire_msg.specs.Adds.{Adds};
+ghost use Rattle.span_base.specs.DcSet.{bits_of};
 ghost use Rattle.wire_msg.specs.Frames.{big, tag_bytes, stamp_bytes, value_bytes, set_bytes};
+ghost use Rattle.wire_msg.specs.Laws.{FitsTag, FitsStamp, FitsSet};
+ghost use Rattle.wire_msg.specs.Adds.{Adds, HasSpace};
 
 use crate::tag::Tag;
 use span_base::{DcSet, Value};
-use std::alloc::AllocError;
 use ticket_rules::Stamp;
 
-/// Writes a frame from left to right.
-#[derive(Drop)]
-pub(crate) struct Writer {
-    pub(crate) bytes: Vec<u8>,
+fn write_bytes(out: &mut Vec<u8>, piece: &[u8])
+    requires { HasSpace out.old (length piece.now) }
+    ensures { Adds out.old piece.now (length piece.now) out.new }
+{
+    out.extend_from_slice(piece).unwrap();
 }
 
-impl Writer {
-    fn put(self, piece: &[u8]) -> Result<Writer, AllocError>
-        ensures { Adds self piece.now result }
-    {
-        let Writer { mut bytes } = self;
-        bytes.extend_from_slice(piece)?;
-        Ok(Writer { bytes })
-    }
+/// The number of a kind, which a frame begins with.
+pub(crate) fn write_kind(out: &mut Vec<u8>, number: u8)
+    requires { HasSpace out.old 1 }
+    ensures { Adds out.old (number ∷ []) 1 out.new }
+{
+    out.push(number).unwrap();
+}
 
-    #[tactic(auto, unfolding(crate::specs::Frames::big))]
-    pub(crate) fn byte(self, number: u8) -> Result<Writer, AllocError>
-        ensures { Adds self (big w8 number) result }
-    {
-        self.put(&number.to_be_bytes())
-    }
+#[tactic(auto, unfolding(crate::specs::Frames::big))]
+pub(crate) fn write_byte(out: &mut Vec<u8>, number: u8)
+    requires { HasSpace out.old 1 }
+    ensures adds { Adds out.old (big w8 number) 1 out.new }
+    ensures fits { number < 2 ^ 8 }
+{
+    write_kind(out, number);
+}
 
-    #[tactic(auto, unfolding(crate::specs::Frames::big))]
-    pub(crate) fn short(self, number: u16) -> Result<Writer, AllocError>
-        ensures { Adds self (big w16 number) result }
-    {
-        self.put(&number.to_be_bytes())
-    }
+#[tactic(auto, unfolding(crate::specs::Frames::big))]
+pub(crate) fn write_short(out: &mut Vec<u8>, number: u16)
+    requires { HasSpace out.old 2 }
+    ensures { Adds out.old (big w16 number) 2 out.new }
+{
+    write_bytes(out, &number.to_be_bytes());
+}
 
-    #[tactic(auto, unfolding(crate::specs::Frames::big))]
-    pub(crate) fn word(self, number: u32) -> Result<Writer, AllocError>
-        ensures { Adds self (big w32 number) result }
-    {
-        self.put(&number.to_be_bytes())
-    }
+#[tactic(auto, unfolding(crate::specs::Frames::big))]
+pub(crate) fn write_word(out: &mut Vec<u8>, number: u32)
+    requires { HasSpace out.old 4 }
+    ensures adds { Adds out.old (big w32 number) 4 out.new }
+    ensures fits { number < 2 ^ 32 }
+{
+    write_bytes(out, &number.to_be_bytes());
+}
 
-    #[tactic(auto, unfolding(crate::specs::Frames::big))]
-    pub(crate) fn long(self, number: u64) -> Result<Writer, AllocError>
-        ensures { Adds self (big w64 number) result }
-    {
-        self.put(&number.to_be_bytes())
-    }
+#[tactic(auto, unfolding(crate::specs::Frames::big))]
+fn write_long(out: &mut Vec<u8>, number: u64)
+    requires { HasSpace out.old 8 }
+    ensures adds { Adds out.old (big w64 number) 8 out.new }
+    ensures fits { number < 2 ^ 64 }
+{
+    write_bytes(out, &number.to_be_bytes());
+}
 
-    #[tactic(auto, unfolding(crate::specs::Frames::tag_bytes))]
-    pub(crate) fn tag(self, tag: &Tag) -> Result<Writer, AllocError>
-        ensures { Adds self (tag_bytes tag.now) result }
-    {
-        self.byte(tag.call.proxy)?
-            .byte(tag.slot)?
-            .word(tag.generation)?
-            .word(tag.call.seq)?
-            .byte(tag.phase)
-    }
+#[tactic(auto, unfolding(crate::specs::Frames::tag_bytes))]
+pub(crate) fn write_tag(out: &mut Vec<u8>, tag: &Tag)
+    requires { HasSpace out.old 11 }
+    ensures adds { Adds out.old (tag_bytes tag.now) 11 out.new }
+    ensures fits { FitsTag tag.now }
+{
+    write_byte(out, tag.call.proxy);
+    write_byte(out, tag.slot);
+    write_word(out, tag.generation);
+    write_word(out, tag.call.seq);
+    write_byte(out, tag.phase);
+}
 
-    #[tactic(auto, unfolding(crate::specs::Frames::stamp_bytes))]
-    pub(crate) fn stamp(self, stamp: &Stamp) -> Result<Writer, AllocError>
-        ensures { Adds self (stamp_bytes stamp.now) result }
-    {
-        self.word(stamp.epoch)?
-            .long(stamp.number)?
-            .byte(stamp.proxy)?
-            .word(stamp.seq)
-    }
+#[tactic(auto, unfolding(crate::specs::Frames::stamp_bytes))]
+pub(crate) fn write_stamp(out: &mut Vec<u8>, stamp: &Stamp)
+    requires { HasSpace out.old 17 }
+    ensures adds { Adds out.old (stamp_bytes stamp.now) 17 out.new }
+    ensures fits { FitsStamp stamp.now }
+{
+    write_word(out, stamp.epoch);
+    write_long(out, stamp.number);
+    write_byte(out, stamp.proxy);
+    write_word(out, stamp.seq);
+}
 
-    #[tactic(auto, unfolding(crate::specs::Frames::value_bytes))]
-    pub(crate) fn value(self, value: &Value) -> Result<Writer, AllocError>
-        ensures { Adds self (value_bytes value.now) result }
-    {
-        self.short(value.len() as u16)?.put(value.as_slice())
-    }
+#[tactic(auto, unfolding(crate::specs::Frames::value_bytes))]
+pub(crate) fn write_value(out: &mut Vec<u8>, value: &Value)
+    requires { HasSpace out.old (2 + length value.now) }
+    ensures { Adds out.old (value_bytes value.now) (2 + length value.now) out.new }
+{
+    write_short(out, value.len() as u16);
+    write_bytes(out, value.as_slice());
+}
 
-    #[tactic(auto, unfolding(crate::specs::Frames::set_bytes))]
-    pub(crate) fn set(self, centres: DcSet) -> Result<Writer, AllocError>
-        ensures { Adds self (set_bytes centres) result }
-    {
-        self.short(centres.bits())
-    }
+#[tactic(auto, unfolding(crate::specs::Frames::set_bytes))]
+pub(crate) fn write_set(out: &mut Vec<u8>, centres: DcSet)
+    requires { HasSpace out.old 2 }
+    ensures adds { Adds out.old (set_bytes centres) 2 out.new }
+    ensures fits { FitsSet centres }
+{
+    write_short(out, centres.bits());
+}
 
-    pub(crate) fn flag(self, flag: bool) -> Result<Writer, AllocError>
-        ensures { Adds self (big w8 (if flag then 1 else 0)) result }
-    {
-        self.byte(u8::from(flag))
-    }
+pub(crate) fn write_flag(out: &mut Vec<u8>, flag: bool)
+    requires { HasSpace out.old 1 }
+    ensures { Adds out.old (big w8 (if flag then 1 else 0)) 1 out.new }
+{
+    write_byte(out, u8::from(flag));
 }

@@ -1,0 +1,7 @@
+use Rattle.std.proofs.Common.{length, ap, arith}
+use Rattle.message_wire.specs.Sent.{Sent}
+use Rattle.message_wire.proofs.RegionLaws.{posts_count}
+use Rattle.message_wire.proofs.frame_wire.FrameWireWire.push.Goals as goal
+
+pub put_frame-requires-clause-few : goal.put_frame-requires-clause-few
+put_frame-requires-clause-few c = omega (arith, posts_count c.self.inside.region.items c.self.inside.entries.items, ap (λ (s : Sent). length s.posts) c.self.view_is, c.requires.few)
