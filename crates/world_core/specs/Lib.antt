@@ -6,3 +6,7 @@ pub mod Step
 pub mod Run
 pub mod Laws
 pub mod Rows
+pub mod Proxies
+pub mod Taking
+pub mod Stores
+pub mod Ends

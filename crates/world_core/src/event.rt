@@ -1,6 +1,8 @@
 use epoch_directory::SetPolicy;
+use replica_core::TakeFault;
 use run_marks::Work;
 use span_base::{DcId, Listed, Policy, SetId, What};
+use std::alloc::AllocError;
 
 /// What a store begins with.
 #[derive(Debug, PartialEq, Eq, Drop)]
@@ -33,8 +35,8 @@ pub enum Event {
     Publish { table: Listed<SetPolicy> },
 }
 
-/// Why an event is refused.
-#[derive(Debug)]
+/// Why an event isn't taken: it is refused, or there is no means to take it.
+#[derive(Clone, Copy, Debug)]
 pub enum StepFault {
     /// There is no proxy or replica of this number.
     NoActor,
@@ -48,4 +50,19 @@ pub enum StepFault {
     NoCall,
     /// The event would make this number of them, which is too many.
     Limit { what: What, number: u128 },
+    /// The replica that the event asks took nothing, by a fault of its journal.
+    Taker(TakeFault),
+    /// Memory ran out: nothing changed.
+    NoMemory(AllocError),
+}
+
+impl From<AllocError> for StepFault {
+    ghost use Rattle.std.specs.Prelude.{◌≡◌};
+    ghost use Rattle.world_core.specs.declared.event.StepFault.TheVariants.{NoMemory};
+
+    ghost from_gives = { λ error fault. fault ≡ NoMemory error };
+
+    fn from(error: AllocError) -> StepFault {
+        StepFault::NoMemory(error)
+    }
 }
