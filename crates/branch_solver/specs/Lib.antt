@@ -1,0 +1,7 @@
+pub mod Best
+pub mod Given
+pub mod Kept
+pub mod Buffers
+pub mod Nodes
+pub mod Steps
+pub mod Laws

@@ -1,0 +1,4 @@
+mod Products
+mod Terms
+mod Totals
+mod Steps
