@@ -72,7 +72,7 @@ pub ruleset first_hops = (first_is_due, other_member, other_child, none_is_due)
 pub ruleset due_steps = (due_start, due_end, due_yes, due_no)
 
 -- at most 16 hops are due for each member
-few_due : (members replicas : List ℕ) → length replicas ≤ 16 → length (hops_due members replicas) ≤ length members * 16
+pub few_due : (members replicas : List ℕ) → length replicas ≤ 16 → length (hops_due members replicas) ≤ length members * 16
 few_due [] replicas few = omega arith
 few_due (member ∷ members) replicas few =
     omega (arith, length-append (map (λ (dc : ℕ). (member, dc)) replicas) (hops_due members replicas), length-map {B = ℕ × ℕ} replicas (λ (dc : ℕ). (member, dc)), few_due members replicas few)

@@ -1,5 +1,5 @@
 -- Small worlds whose policies can be priced by hand.
-use Rattle.std.specs.Prelude.{ℕ, ◌^◌, List, [], ◌∷◌, ◌++◌, codes}
+use Rattle.std.specs.Prelude.{ℕ, ◌^◌, List, [], ◌∷◌, ◌++◌, codes, Some}
 use Rattle.span_base.specs.declared.dc_set.DcSet.{DcSet}
 use Rattle.span_base.specs.DcSet.{no_centre as no_dc, insert}
 use Rattle.span_base.specs.declared.policy.Policy.{Policy}
@@ -14,6 +14,7 @@ use Rattle.workload.specs.declared.rules.Demand.{Demand}
 use Rattle.span_base.specs.declared.ids.DcId.{DcId}
 use Rattle.workload.specs.declared.rules.SetRule.{SetRule}
 use Rattle.workload.specs.declared.rules.Mode.TheVariants as mode
+use Rattle.slo_rules.specs.PolicyReading.{Draft}
 
 -- a centre, a fare and a member of these numbers
 abbrev pub centre : List ℕ → List ℕ → ℕ → ℕ → ℕ → Centre
@@ -162,3 +163,13 @@ largest = record {
     members = member 0 (10 ^ 9) (10 ^ 9) ∷ [];
   } ∷ [];
 }
+
+-- drafts of these policies: behind the replicas, behind the primaries and a hop, behind the replicas
+abbrev pub at_begun : Draft
+at_begun = record { set = 0; replicas = Some (only 1); primary = []; hops = []; quorums = [] }
+
+abbrev pub hops_begun : Draft
+hops_begun = record { set = 0; replicas = Some (both 1 2); primary = near 0 1 ∷ near 1 1 ∷ near 2 2 ∷ []; hops = hop 0 1 1 ∷ []; quorums = [] }
+
+abbrev pub strong_begun : Draft
+strong_begun = record { set = 0; replicas = Some (all_of 0 1 2); primary = []; hops = []; quorums = [] }

@@ -2,3 +2,10 @@ pub mod Centres
 pub mod Rules
 pub mod Cost
 pub mod Examples
+pub mod PolicyText
+pub mod PolicyLines
+pub mod Gives
+pub mod PolicyReading
+pub mod Rooms
+pub mod PolicyLaws
+pub mod LineGrammar

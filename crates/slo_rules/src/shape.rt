@@ -9,7 +9,7 @@ use span_base::{CENTRES, DcId, DcSet, Hop, Near, Policy, Quorum, SetId};
 use workload::{Demand, World};
 
 /// Whether all centres of a set are among the first `n`.
-fn lies_below(n: u8, set: &DcSet) -> bool
+pub(crate) fn lies_below(n: u8, set: &DcSet) -> bool
     ensures { result ≡ lies_below n set.now }
 {
     for d in 0..CENTRES {

@@ -2,7 +2,7 @@
 ghost use Rattle.std.specs.Prelude.{◌≤◌, IfOk};
 ghost use Rattle.span_base.specs.Name.{IsName};
 
-use crate::{Rule, cost, fault_of, fits};
+use crate::{Next, PolicyFault, PolicyReader, Rule, cost, fault_of, fits, push_policy};
 use price_tables::{DcPrice, Fare, Tables};
 use span_base::{DcId, DcSet, Listed, Near, Policy, SetId, Word, read_name};
 use std::alloc::{AllocError, Global};
@@ -128,5 +128,31 @@ fn policies_of_two_centres(rt: HostRuntime) -> Result<(), Fail> {
         assert!(rt; fits(&world, SetId(0), &policy));
         assert_eq!(rt; cost(&world, SetId(0), &policy), want);
     }
+    Ok(())
+}
+
+#[test]
+fn printed_policy_is_read(rt: HostRuntime) -> Result<(), Fail> {
+    let world = two_centres(rt.alloc())?;
+    assert!(rt; 0 < world.sets());
+    let policy = direct(rt.alloc(), 2, 1)?;
+    let _count = world.centre_count();
+    if fault_of(&world, SetId(0), &policy).is_some() {
+        return Err(Fail::new("the policy isn't allowed"));
+    }
+    let mut text = String::new(rt.alloc());
+    push_policy(&mut text, &world, &policy)?;
+    assert_eq!(rt; text.as_str(), "replicas y\nprimary x y\n");
+    let mut reader = PolicyReader::make(rt.alloc(), SetId(0))?;
+    let bad = Err(PolicyFault::Bad { at: 9 });
+    assert_eq!(rt; reader.take(&world, b"replicas y"), Ok(Next::More));
+    assert_eq!(rt; reader.take(&world, b"primary x"), bad, "no primary");
+    assert_eq!(rt;
+        reader.take(&world, b"primary y y"),
+        Err(PolicyFault::Member),
+        "y is no member"
+    );
+    assert_eq!(rt; reader.take(&world, b"primary x y"), Ok(Next::Done));
+    assert_eq!(rt; reader.into_policy(&world), Some(policy));
     Ok(())
 }

@@ -1,7 +1,8 @@
-//! Costs of small worlds, reckoned by hand, and policies that break each rule.
-ghost use Rattle.std.specs.Prelude.{◌≡◌, [], ◌∷◌};
+//! Costs and texts of policies of small worlds, reckoned by hand, and policies that break each rule.
+ghost use Rattle.std.specs.Prelude.{◌≡◌, [], ◌∷◌, codes};
 ghost use Rattle.slo_rules.specs.Rules.{first_broken_rule, fits_set};
 ghost use Rattle.slo_rules.specs.Cost.{policy_cost};
+ghost use Rattle.slo_rules.specs.PolicyText.{policy_text};
 ghost use Rattle.slo_rules.specs.Examples.{dc, member, only, both, all_of, hop, two_centres, two_centres_with, at, at_both, read_elsewhere, both_for_one, at_third, one_writer, one_direct_writer, through_b, written_straight, through, out_of_order, three_equal, three_equal_with, at_all, with_quorums, written_apart, largest};
 
 use crate::rules::Rule;
@@ -50,4 +51,11 @@ pub fn worked_faults()
     ensures writes_apart { first_broken_rule (three_equal_with 0 20 40 1 (member 0 5 2 ∷ member 1 5 2 ∷ [])) 0 written_apart ≡ Some (Rule.MeetWrites (dc 0) (dc 1)) }
     ensures one_provider { first_broken_rule (two_centres_with 0 30 30 2) 0 (at 0) ≡ Some Rule.Providers }
     ensures one_of_three { first_broken_rule (three_equal_with 1 20 40 2 (member 0 5 2 ∷ [])) 0 at_all ≡ Some Rule.Providers }
+{}
+
+/// How policies are written, one of each mode.
+pub fn worked_texts()
+    ensures direct { policy_text two_centres (at 1) ≡ codes "replicas y\nprimary x y\n" }
+    ensures relay { policy_text one_writer through_b ≡ codes "replicas b c\nprimary a b\nprimary b b\nprimary c c\nparent a b b\nparent a c b\nparent b b b\nparent b c c\nparent c b b\nparent c c c\n" }
+    ensures strong { policy_text three_equal at_all ≡ codes "replicas x y z\nquorum x read x y z ; write x y z\n" }
 {}
