@@ -1,19 +1,20 @@
--- How the policies of a direct set and the choices of its program stand for one another.
-use Rattle.std.specs.Prelude.{◌≡◌, ℕ, ◌<◌, ◌≤◌, Bool, List, length}
+-- How the policies of a direct or relay set and the choices of its program stand for one another.
+use Rattle.std.specs.Prelude.{◌≡◌, ◌≢◌, ℕ, ◌<◌, ◌≤◌, Bool, List, length}
 use Rattle.span_base.specs.declared.policy.Policy.{Policy}
-use Rattle.workload.specs.World.{Lists, IsComplete, rule_of}
+use Rattle.workload.specs.World.{Lists, IsComplete, IsNamed, rule_of}
 use Rattle.slo_rules.specs.Rules.{IsAllowed}
 use Rattle.slo_rules.specs.Cost.{policy_cost}
-use Rattle.workload.specs.declared.rules.Mode.TheVariants.{Direct}
+use Rattle.workload.specs.declared.rules.Mode.TheVariants.{Strong}
 use Rattle.zero_one.specs.Program.{IsFeasible, value_of}
 use Rattle.placement_relay.specs.Programs.{set_program, set_costs}
 use Rattle.placement_relay.specs.Placed.{placed, decoded}
 
--- a set of a complete world is direct
-pub record IsDirectSet (w : Lists) (set : ℕ) : Type 0 where
+-- a set of a complete and named world is direct or relay
+pub record IsEventualSet (w : Lists) (set : ℕ) : Type 0 where
   pub complete : IsComplete w
+  pub named : IsNamed w
   pub there : set < length w.sets
-  pub mode : (rule_of w set).mode ≡ Direct
+  pub mode : (rule_of w set).mode ≢ Strong
 
 -- the choice that a policy is meets the program, and its value is the policy's cost
 pub record IsPlaced (w : Lists) (set : ℕ) (q : Policy) : Type 0 where

@@ -3,6 +3,7 @@ use Rattle.std.specs.Prelude.{ℕ, Bool, ◌&&◌, List, [], ◌++◌, map, ◌=
 use Rattle.std.specs.List.{flat_map, filter, find, fold, list_any}
 use Rattle.span_base.specs.declared.dc_set.DcSet.{DcSet}
 use Rattle.span_base.specs.DcSet.{has, insert, centres_of, no_centre as no_dc}
+use Rattle.span_base.specs.PolicyParts.{replicas_of}
 use Rattle.span_base.specs.declared.policy.Policy.{Policy}
 use Rattle.span_base.specs.declared.policy.Policy.TheVariants.{Direct, Relay, Strong}
 use Rattle.span_base.specs.declared.policy.Near.{Near}
@@ -26,17 +27,23 @@ reading_bits w replicas primary =
 abbrev pub has_hop : List Hop → ℕ → ℕ → ℕ → Bool
 has_hop hops member p d = list_any (λ hop. hop.member.0 == member && hop.child.0 == d && hop.parent.0 == p) hops
 
+-- how the writes of a member come to the replicas
+abbrev pub member_hop_bits : Lists → List Hop → ℕ → List Bool
+member_hop_bits w hops member = flat_map (λ p. map (has_hop hops member p) (centres w)) (centres w)
+
 -- how the writes of each member come to the replicas
 abbrev pub hop_bits : Lists → ℕ → List Hop → List Bool
-hop_bits w set hops =
-    flat_map (λ m. flat_map (λ p. map (has_hop hops m.dc.0 p) (centres w)) (centres w)) (members_of w set)
+hop_bits w set hops = flat_map (λ m. member_hop_bits w hops m.dc.0) (members_of w set)
 
--- the choice that a policy is: its replicas, its primaries, its hops, and its providers
+-- the bits of the mode's own variables: a policy's replicas, its primaries and its hops
+abbrev pub mode_bits : Lists → ℕ → Policy → List Bool
+mode_bits w set (Direct f replicas primary) = reading_bits w replicas primary
+mode_bits w set (Relay f replicas primary parent) = reading_bits w replicas primary ++ hop_bits w set parent
+mode_bits w set (Strong f replicas members) = []
+
+-- the choice that a policy is: the bits of the mode's variables, then those of the providers
 unfoldable pub placed : Lists → ℕ → Policy → List Bool
-placed w set (Direct f replicas primary) = reading_bits w replicas primary ++ provider_bits w set (centres_of replicas)
-placed w set (Relay f replicas primary parent) =
-    reading_bits w replicas primary ++ (hop_bits w set parent ++ provider_bits w set (centres_of replicas))
-placed w set (Strong f replicas members) = []
+placed w set policy = mode_bits w set policy ++ provider_bits w set (centres_of (replicas_of policy))
 
 -- the replicas that a choice keeps
 abbrev pub chosen_replicas : Lists → List Bool → DcSet

@@ -7,7 +7,7 @@ use Rattle.workload.specs.World.{Lists, centre_count, rule_of, members_of}
 use Rattle.workload.specs.declared.rules.Demand.{Demand}
 use Rattle.slo_rules.specs.Cost.{gets_cost}
 use Rattle.zero_one.specs.declared.rows.Row.{Row}
-use Rattle.placement_rows.specs.Centres.{centres, numbered_members, read_near}
+use Rattle.placement_rows.specs.Centres.{centres, member_numbers, numbered_members, read_near}
 use Rattle.placement_rows.specs.Rows.{at_least, backed}
 
 -- the variable that says that a member reads at a centre
@@ -34,5 +34,5 @@ has_replicas w set near = at_least ((rule_of w set).f + 1) (λ d. d) near
 abbrev pub reading_rows : Lists → ℕ → List Row
 reading_rows w set =
     (map (reads_somewhere w set) (numbered_members w set)
-    ++ flat_map (λ am. map (reads_a_replica w am.0) (centres w)) (numbered_members w set))
+    ++ flat_map (λ a. map (reads_a_replica w a) (centres w)) (member_numbers w set))
     ++ map (λ m. has_replicas w set (read_near w set m)) (members_of w set)

@@ -1,6 +1,6 @@
 ghost use Rattle.std.specs.Prelude.{◌≡◌, IfOk};
 ghost use Rattle.placement_relay.specs.Programs.{set_program};
-ghost use Rattle.placement_relay.specs.Laws.{IsDirectSet};
+ghost use Rattle.placement_relay.specs.Laws.{IsEventualSet};
 
 use crate::costs::set_costs;
 use crate::rows::set_rows;
@@ -9,9 +9,9 @@ use std::alloc::{AllocError, Global};
 use workload::World;
 use zero_one::Program;
 
-/// The program of a direct set. It keeps the limits of programs, so that only memory can lack.
+/// The program of a direct or relay set. It keeps the limits of programs, so that only memory can lack.
 pub fn encode(alloc: Global, world: &World, set: SetId) -> Result<Program, AllocError>
-    requires { IsDirectSet world.now set.0 }
+    requires { IsEventualSet world.now set.0 }
     ensures { IfOk result (λ program. program ≡ set_program world.now set.0) }
 {
     let costs = set_costs(alloc, world, set)?;

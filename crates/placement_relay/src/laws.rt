@@ -8,32 +8,32 @@ ghost use Rattle.zero_one.specs.Program.{IsFeasible, value_of};
 ghost use Rattle.placement_relay.specs.Programs.{set_program, set_costs, set_rows};
 ghost use Rattle.placement_relay.specs.Placed.{placed, decoded};
 ghost use Rattle.placement_relay.specs.Examples.{two_centres_program, two_providers_program, relayed, relayed_program, choice_of_x, choice_of_y, choice_of_both, choice_of_all};
-ghost use Rattle.placement_relay.specs.Laws.{IsDirectSet, IsPlaced, IsDecoded, IsLeastChoice};
+ghost use Rattle.placement_relay.specs.Laws.{IsEventualSet, IsPlaced, IsDecoded, IsLeastChoice};
 
 /// Every allowed policy is a choice that meets the program, at the policy's cost.
 pub fn allowed_policies_are_placed()
-    ensures { (w : Lists) (set : ℕ) → IsDirectSet w set → (q : Policy) → IsAllowed w set q → IsPlaced w set q }
+    ensures { (w : Lists) (set : ℕ) → IsEventualSet w set → (q : Policy) → IsAllowed w set q → IsPlaced w set q }
 {}
 
 /// Every choice that meets the program is an allowed policy, which costs at most the choice's
 /// value.
 pub fn feasible_choices_are_decoded()
-    ensures { (w : Lists) (set : ℕ) → IsDirectSet w set → (x : List Bool) → IsFeasible (set_program w set) x → IsDecoded w set x }
+    ensures { (w : Lists) (set : ℕ) → IsEventualSet w set → (x : List Bool) → IsFeasible (set_program w set) x → IsDecoded w set x }
 {}
 
 /// A least choice is a least policy.
 pub fn least_choices_are_least_policies()
-    ensures { (w : Lists) (set : ℕ) → IsDirectSet w set → (x : List Bool) → IsLeastChoice w set x → IsLeast w set (decoded w set x) }
+    ensures { (w : Lists) (set : ℕ) → IsEventualSet w set → (x : List Bool) → IsLeastChoice w set x → IsLeast w set (decoded w set x) }
 {}
 
 /// Where no choice meets the program, no policy is allowed.
 pub fn no_choice_is_no_policy()
-    ensures { (w : Lists) (set : ℕ) → IsDirectSet w set → ((x : List Bool) → ¬ (IsFeasible (set_program w set) x)) → HasNoPolicy w set }
+    ensures { (w : Lists) (set : ℕ) → IsEventualSet w set → ((x : List Bool) → ¬ (IsFeasible (set_program w set) x)) → HasNoPolicy w set }
 {}
 
 /// A world of two centres that can be reckoned by hand: its programs, and its policies as choices.
 pub fn worked_two_centres()
-    ensures set { IsDirectSet two_centres 0 }
+    ensures set { IsEventualSet two_centres 0 }
     ensures program { set_program two_centres 0 ≡ two_centres_program }
     ensures at_x { placed two_centres 0 (at 0) ≡ choice_of_x }
     ensures at_y { placed two_centres 0 (at 1) ≡ choice_of_y }

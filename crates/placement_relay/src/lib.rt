@@ -3,21 +3,23 @@
 
 mod costs;
 mod decoding;
-mod direct;
 mod encoding;
+mod hops;
 mod laws;
-mod near;
 mod placing;
 mod rows;
+mod variables;
 
 pub use decoding::decode;
-pub use direct::{is_direct_set, variable_count};
 pub use encoding::encode;
 pub use laws::{
     allowed_policies_are_placed, feasible_choices_are_decoded, least_choices_are_least_policies,
     no_choice_is_no_policy, worked_relay, worked_two_centres,
 };
 pub use placing::place;
+pub use variables::{is_eventual_set, variable_count};
 
 #[cfg(test)]
 mod tests;
+#[cfg(test)]
+mod worlds;

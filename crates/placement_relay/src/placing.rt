@@ -1,4 +1,4 @@
-ghost use Rattle.std.specs.Prelude.{◌≡◌, ◌++◌, map, ◌==◌, IfOk, OnOk};
+ghost use Rattle.std.specs.Prelude.{◌≡◌, ◌<◌, ◌++◌, length, map, ◌==◌, IfOk, OnOk};
 ghost use Rattle.std.specs.List.{flat_map};
 ghost use Rattle.span_base.specs.DcSet.{has};
 ghost use Rattle.slo_rules.specs.Rules.{IsAllowed};
@@ -6,11 +6,12 @@ ghost use Rattle.slo_rules.specs.Cost.{policy_cost};
 ghost use Rattle.zero_one.specs.Program.{IsFeasible, value_of};
 ghost use Rattle.placement_rows.specs.Centres.{centres};
 ghost use Rattle.placement_relay.specs.Programs.{set_program, set_costs};
-ghost use Rattle.placement_relay.specs.Placed.{placed};
-ghost use Rattle.placement_relay.specs.Laws.{IsDirectSet};
+ghost use Rattle.placement_relay.specs.Placed.{placed, reading_bits, has_hop, member_hop_bits, hop_bits, mode_bits};
+ghost use Rattle.placement_relay.specs.Laws.{IsEventualSet};
 
+use crate::variables::most_variables;
 use placement_rows::push_provider_bits;
-use span_base::{DcId, DcSet, Near, Policy, SetId};
+use span_base::{DcId, DcSet, Hop, Near, Policy, SetId};
 use std::alloc::{AllocError, Global};
 use workload::World;
 use zero_one::Bits;
@@ -47,26 +48,116 @@ fn push_primaries(bits: &mut Vec<bool>, world: &World, primary: &[Near]) -> Resu
     Ok(())
 }
 
-/// The choice that an allowed policy is: 1 for each replica, for each member's primary, and for each
-/// provider with a replica.
+/// Whether one of the hops is the member's to centre `d` from centre `p`.
+fn has_hop(hops: &[Hop], member: DcId, p: u8, d: u8) -> bool
+    ensures { result ≡ has_hop hops.now member.0 p d }
+{
+    hops.iter().any(|hop| hop.member.0 == member.0 && hop.child.0 == d && hop.parent.0 == p)
+}
+
+/// Puts a bit for each centre at the end: whether the member's writes come there from `p`.
+#[tactic(auto, using(placement_rows::proofs::Loops::loops))]
+fn push_hops_from(
+    bits: &mut Vec<bool>,
+    world: &World,
+    hops: &[Hop],
+    member: DcId,
+    p: u8,
+) -> Result<(), AllocError>
+    ensures { OnOk result (bits.new.items ≡ bits.old.items ++ map (has_hop hops.now member.0 p) (centres world.now)) }
+{
+    for d in 0..world.centre_count() {
+        bits.push(has_hop(hops, member, p, d))?;
+    }
+    Ok(())
+}
+
+/// Puts a bit for each two centres at the end: whether the member's writes come to the second from
+/// the first.
+#[tactic(auto, using(placement_rows::proofs::Loops::loops))]
+fn push_member_hops(
+    bits: &mut Vec<bool>,
+    world: &World,
+    hops: &[Hop],
+    member: DcId,
+) -> Result<(), AllocError>
+    ensures { OnOk result (bits.new.items ≡ bits.old.items ++ member_hop_bits world.now hops.now member.0) }
+{
+    for p in 0..world.centre_count() {
+        push_hops_from(bits, world, hops, member, p)?;
+    }
+    Ok(())
+}
+
+/// Puts the bits of the hops of all members at the end.
+fn push_hops(
+    bits: &mut Vec<bool>,
+    world: &World,
+    set: SetId,
+    hops: &[Hop],
+) -> Result<(), AllocError>
+    requires { set.0 < length world.now.sets }
+    ensures { OnOk result (bits.new.items ≡ bits.old.items ++ hop_bits world.now set.0 hops.now) }
+{
+    for member in world.members(set) {
+        push_member_hops(bits, world, hops, member.dc)?;
+    }
+    Ok(())
+}
+
+/// Puts the bits of where replicas are kept and where each member reads at the end.
+fn push_reading(
+    bits: &mut Vec<bool>,
+    world: &World,
+    replicas: &DcSet,
+    primary: &[Near],
+) -> Result<(), AllocError>
+    ensures { OnOk result (bits.new.items ≡ bits.old.items ++ reading_bits world.now replicas.now primary.now) }
+{
+    push_replicas(bits, world, replicas)?;
+    push_primaries(bits, world, primary)
+}
+
+/// Puts the bits of the mode's own variables at the end. A strong policy has none here.
+fn push_mode_bits(
+    bits: &mut Vec<bool>,
+    world: &World,
+    set: SetId,
+    policy: &Policy,
+) -> Result<(), AllocError>
+    requires { set.0 < length world.now.sets }
+    ensures { OnOk result (bits.new.items ≡ bits.old.items ++ mode_bits world.now set.0 policy.now) }
+{
+    match policy {
+        Policy::Direct {
+            replicas,
+            primary,
+            ..
+        } => push_reading(bits, world, replicas, primary.as_slice()),
+        Policy::Relay {
+            replicas,
+            primary,
+            parent,
+            ..
+        } => {
+            push_reading(bits, world, replicas, primary.as_slice())?;
+            push_hops(bits, world, set, parent.as_slice())
+        }
+        Policy::Strong { .. } => Ok(()),
+    }
+}
+
+/// The choice that an allowed policy is: 1 for each replica, for each member's primary, in a relay
+/// set for each hop, and for each provider with a replica.
 pub fn place(alloc: Global, world: &World, set: SetId, policy: &Policy) -> Result<Bits, AllocError>
-    requires direct { IsDirectSet world.now set.0 }
+    requires set { IsEventualSet world.now set.0 }
     requires allowed { IsAllowed world.now set.0 policy.now }
     ensures bits { IfOk result (λ x. x ≡ placed world.now set.0 policy.now) }
     ensures feasible { IfOk result (IsFeasible (set_program world.now set.0)) }
     ensures value { IfOk result (λ x. value_of (set_costs world.now set.0) x ≡ policy_cost world.now set.0 policy.now) }
 {
-    let Policy::Direct {
-        replicas,
-        primary,
-        ..
-    } = policy
-    else {
-        unreachable!()
-    };
-    let mut bits = Vec::new(alloc);
-    push_replicas(&mut bits, world, replicas)?;
-    push_primaries(&mut bits, world, primary.as_slice())?;
-    push_provider_bits(&mut bits, world, set, replicas)?;
+    let mut bits = Vec::with_capacity(alloc, most_variables(world, set))?;
+    push_mode_bits(&mut bits, world, set, policy)?;
+    push_provider_bits(&mut bits, world, set, &policy.replicas())?;
     Ok(Bits::from_vec(bits))
 }

@@ -1,47 +1,21 @@
-//! The rows of a direct set's program.
-ghost use Rattle.std.specs.Prelude.{◌≡◌, ◌+◌, ◌*◌, ◌<◌, ◌≤◌, pos, [], ◌∷◌, ◌++◌, length, map, IfOk, OnOk};
+//! The rows of a set's program, and those that direct and relay sets share.
+ghost use Rattle.std.specs.Prelude.{◌≡◌, ◌+◌, ◌*◌, ◌<◌, ◌≤◌, ◌++◌, length, map, IfOk, OnOk};
 ghost use Rattle.std.specs.List.{flat_map};
-ghost use Rattle.workload.specs.World.{IsDemandWithin, centre_count, members_of};
-ghost use Rattle.placement_rows.specs.Centres.{centres, numbered_members, read_near, write_near};
-ghost use Rattle.placement_relay.specs.Reading.{h, reads_somewhere, reads_a_replica, has_replicas};
-ghost use Rattle.placement_rows.specs.Rows.{plus, minus};
-ghost use Rattle.placement_relay.specs.Direct.{direct_costs, direct_rows};
-ghost use Rattle.placement_rows.specs.Providers.{provider_rows};
-ghost use Rattle.placement_relay.specs.Programs.{keeping};
-ghost use Rattle.placement_relay.specs.Laws.{IsDirectSet};
+ghost use Rattle.span_base.specs.DcSet.{centres_of};
+ghost use Rattle.workload.specs.World.{members_of};
+ghost use Rattle.placement_rows.specs.Centres.{centres, member_numbers, numbered_members, read_near, write_near};
+ghost use Rattle.placement_relay.specs.Reading.{reads_somewhere, reads_a_replica, has_replicas, reading_rows};
+ghost use Rattle.placement_relay.specs.Direct.{direct_rows};
+ghost use Rattle.placement_relay.specs.Programs.{mode_rows, set_rows, keeping};
+ghost use Rattle.placement_relay.specs.Laws.{IsEventualSet};
 
-use crate::direct::first_provider;
-use crate::near::{read_near, write_near};
-use placement_rows::{backed_row, plus, push_provider_rows};
-use span_base::{Listed, SetId};
+use crate::hops::push_hop_rows;
+use crate::variables::{first_provider, first_read};
+use placement_rows::{backed_row, push_provider_rows, read_near, sum_row, write_near};
+use span_base::{DcSet, SetId};
 use std::alloc::{AllocError, Global};
-use workload::{Demand, World};
+use workload::{Demand, Mode, World};
 use zero_one::Row;
-
-/// The first of the variables that say where a member reads; the member is counted from 0.
-pub(crate) fn first_read(world: &World, member: usize) -> u16
-    requires { member < 8 }
-    ensures { result ≡ centre_count world.now + member * centre_count world.now }
-{
-    let centres = u16::from(world.centre_count());
-    centres + member as u16 * centres
-}
-
-/// At least `least` of the variables of these centres are 1, where centre 0 has the variable
-/// `first`.
-fn sum_row(alloc: Global, near: &[u8], first: u16, least: u8) -> Result<Row, AllocError>
-    requires { first ≤ 1000 }
-    ensures { IfOk result (λ row. row ≡ record { entries = map (λ d. plus (first + d)) near.now; bound = pos least }) }
-{
-    let mut entries = Vec::new(alloc);
-    for d in near {
-        entries.push(plus(first + u16::from(*d)))?;
-    }
-    Ok(Row {
-        entries: Listed::from_vec(entries),
-        bound: i32::from(least),
-    })
-}
 
 /// The member, which is counted from 0, reads at one of its read-near centres.
 fn reads_somewhere(
@@ -51,43 +25,20 @@ fn reads_somewhere(
     a: usize,
     member: &Demand,
 ) -> Result<Row, AllocError>
-    requires direct { IsDirectSet world.now set.0 }
-    requires member { IsDemandWithin (centre_count world.now) member.now }
+    requires set { IsEventualSet world.now set.0 }
     requires number { a < 8 }
     ensures { IfOk result (λ row. row ≡ reads_somewhere world.now set.0 (a, member.now)) }
 {
-    let near = read_near(alloc, world, set, member)?;
-    sum_row(alloc, near.as_slice(), first_read(world, a), 1)
+    let near = read_near(world, set, member);
+    sum_row(alloc, &near, first_read(world, a), 1, 1)
 }
 
-/// More of the member's read-near centres than may fail keep a replica.
-fn has_read_near(
-    alloc: Global,
-    world: &World,
-    set: SetId,
-    member: &Demand,
-) -> Result<Row, AllocError>
-    requires direct { IsDirectSet world.now set.0 }
-    requires member { IsDemandWithin (centre_count world.now) member.now }
-    ensures { IfOk result (λ row. row ≡ has_replicas world.now set.0 (read_near world.now set.0 member.now)) }
+/// More of these centres than may fail keep a replica.
+fn has_replicas(alloc: Global, world: &World, set: SetId, near: &DcSet) -> Result<Row, AllocError>
+    requires { IsEventualSet world.now set.0 }
+    ensures { IfOk result (λ row. row ≡ has_replicas world.now set.0 (centres_of near.now)) }
 {
-    let near = read_near(alloc, world, set, member)?;
-    sum_row(alloc, near.as_slice(), 0, world.rule(set).f + 1)
-}
-
-/// More of the member's write-near centres than may fail keep a replica.
-fn has_write_near(
-    alloc: Global,
-    world: &World,
-    set: SetId,
-    member: &Demand,
-) -> Result<Row, AllocError>
-    requires direct { IsDirectSet world.now set.0 }
-    requires member { IsDemandWithin (centre_count world.now) member.now }
-    ensures { IfOk result (λ row. row ≡ has_replicas world.now set.0 (write_near world.now set.0 member.now)) }
-{
-    let near = write_near(alloc, world, set, member)?;
-    sum_row(alloc, near.as_slice(), 0, world.rule(set).f + 1)
+    sum_row(alloc, near, 0, 1, world.rule(set).f + 1)
 }
 
 /// Puts at the end that each member reads somewhere.
@@ -97,7 +48,7 @@ fn push_reads_somewhere(
     world: &World,
     set: SetId,
 ) -> Result<(), AllocError>
-    requires { IsDirectSet world.now set.0 }
+    requires { IsEventualSet world.now set.0 }
     ensures { OnOk result (rows.new.items ≡ rows.old.items ++ map (reads_somewhere world.now set.0) (numbered_members world.now set.0)) }
 {
     for (a, member) in world.members(set).iter().enumerate() {
@@ -106,18 +57,18 @@ fn push_reads_somewhere(
     Ok(())
 }
 
-/// Puts at the end that the member reads at replicas alone.
+/// Puts at the end that the member, which is counted from 0, reads at replicas alone.
 #[tactic(auto, using(placement_rows::proofs::Loops::loops))]
 fn push_reads_of(
     rows: &mut Vec<Row>,
     alloc: Global,
     world: &World,
-    member: usize,
+    a: usize,
 ) -> Result<(), AllocError>
-    requires { member < 8 }
-    ensures { OnOk result (rows.new.items ≡ rows.old.items ++ map (reads_a_replica world.now member) (centres world.now)) }
+    requires { a < 8 }
+    ensures { OnOk result (rows.new.items ≡ rows.old.items ++ map (reads_a_replica world.now a) (centres world.now)) }
 {
-    let first = first_read(world, member);
+    let first = first_read(world, a);
     for d in 0..world.centre_count() {
         rows.push(backed_row(alloc, u16::from(d), first + u16::from(d))?)?;
     }
@@ -125,14 +76,15 @@ fn push_reads_of(
 }
 
 /// Puts at the end that all members read at replicas alone.
+#[tactic(auto, using(placement_rows::proofs::Loops::loops))]
 fn push_reads_a_replica(
     rows: &mut Vec<Row>,
     alloc: Global,
     world: &World,
     set: SetId,
 ) -> Result<(), AllocError>
-    requires { IsDirectSet world.now set.0 }
-    ensures { OnOk result (rows.new.items ≡ rows.old.items ++ flat_map (λ am. map (reads_a_replica world.now am.0) (centres world.now)) (numbered_members world.now set.0)) }
+    requires { IsEventualSet world.now set.0 }
+    ensures { OnOk result (rows.new.items ≡ rows.old.items ++ flat_map (λ a. map (reads_a_replica world.now a) (centres world.now)) (member_numbers world.now set.0)) }
 {
     for a in 0..world.members(set).len() {
         push_reads_of(rows, alloc, world, a)?;
@@ -147,11 +99,12 @@ fn push_read_near(
     world: &World,
     set: SetId,
 ) -> Result<(), AllocError>
-    requires { IsDirectSet world.now set.0 }
+    requires { IsEventualSet world.now set.0 }
     ensures { OnOk result (rows.new.items ≡ rows.old.items ++ map (λ m. has_replicas world.now set.0 (read_near world.now set.0 m)) (members_of world.now set.0)) }
 {
     for member in world.members(set) {
-        rows.push(has_read_near(alloc, world, set, member)?)?;
+        let near = read_near(world, set, member);
+        rows.push(has_replicas(alloc, world, set, &near)?)?;
     }
     Ok(())
 }
@@ -163,26 +116,61 @@ fn push_write_near(
     world: &World,
     set: SetId,
 ) -> Result<(), AllocError>
-    requires { IsDirectSet world.now set.0 }
+    requires { IsEventualSet world.now set.0 }
     ensures { OnOk result (rows.new.items ≡ rows.old.items ++ map (λ m. has_replicas world.now set.0 (write_near world.now set.0 m)) (members_of world.now set.0)) }
 {
     for member in world.members(set) {
-        rows.push(has_write_near(alloc, world, set, member)?)?;
+        let near = write_near(world, set, member);
+        rows.push(has_replicas(alloc, world, set, &near)?)?;
     }
     Ok(())
 }
 
-/// The mode's own rows.
-fn direct_rows(alloc: Global, world: &World, set: SetId) -> Result<Vec<Row>, AllocError>
-    requires { IsDirectSet world.now set.0 }
-    ensures { IfOk result (λ rows. rows.items ≡ direct_rows world.now set.0) }
+/// Puts the rows on reading at the end.
+fn push_reading_rows(
+    rows: &mut Vec<Row>,
+    alloc: Global,
+    world: &World,
+    set: SetId,
+) -> Result<(), AllocError>
+    requires { IsEventualSet world.now set.0 }
+    ensures { OnOk result (rows.new.items ≡ rows.old.items ++ reading_rows world.now set.0) }
 {
-    let mut rows = Vec::new(alloc);
-    push_reads_somewhere(&mut rows, alloc, world, set)?;
-    push_reads_a_replica(&mut rows, alloc, world, set)?;
-    push_read_near(&mut rows, alloc, world, set)?;
-    push_write_near(&mut rows, alloc, world, set)?;
-    Ok(rows)
+    push_reads_somewhere(rows, alloc, world, set)?;
+    push_reads_a_replica(rows, alloc, world, set)?;
+    push_read_near(rows, alloc, world, set)
+}
+
+/// Puts the mode's own rows at the end.
+fn push_mode_rows(
+    rows: &mut Vec<Row>,
+    alloc: Global,
+    world: &World,
+    set: SetId,
+) -> Result<(), AllocError>
+    requires { IsEventualSet world.now set.0 }
+    ensures { OnOk result (rows.new.items ≡ rows.old.items ++ mode_rows world.now set.0) }
+{
+    push_reading_rows(rows, alloc, world, set)?;
+    match world.rule(set).mode {
+        Mode::Direct => push_write_near(rows, alloc, world, set),
+        Mode::Relay => push_hop_rows(rows, alloc, world, set),
+        Mode::Strong => unreachable!(),
+    }
+}
+
+/// A number of rows that the program of the set doesn't pass.
+fn most_rows(world: &World, set: SetId) -> usize
+    requires { IsEventualSet world.now set.0 }
+    ensures { length (set_rows world.now set.0) ≤ result }
+{
+    let members = world.members(set).len();
+    let centres = usize::from(world.centre_count());
+    match world.rule(set).mode {
+        Mode::Direct => members * (3 + centres) + centres + 1,
+        Mode::Relay => members * (3 + 3 * centres + centres * centres) + centres + 1,
+        Mode::Strong => unreachable!(),
+    }
 }
 
 /// What keeps a replica in each centre: its variable, which has the centre's number.
@@ -199,10 +187,11 @@ fn keeping(alloc: Global, world: &World) -> Result<Vec<(u16, u8)>, AllocError>
 
 /// All rows.
 pub(crate) fn set_rows(alloc: Global, world: &World, set: SetId) -> Result<Vec<Row>, AllocError>
-    requires { IsDirectSet world.now set.0 }
-    ensures { IfOk result (λ rows. rows.items ≡ direct_rows world.now set.0 ++ provider_rows world.now set.0 (length (direct_costs world.now set.0)) (keeping world.now)) }
+    requires { IsEventualSet world.now set.0 }
+    ensures { IfOk result (λ rows. rows.items ≡ set_rows world.now set.0) }
 {
-    let mut rows = direct_rows(alloc, world, set)?;
+    let mut rows = Vec::with_capacity(alloc, most_rows(world, set))?;
+    push_mode_rows(&mut rows, alloc, world, set)?;
     let vars = keeping(alloc, world)?;
     let first = first_provider(world, set);
     push_provider_rows(&mut rows, alloc, world, set, first, vars.as_slice())?;

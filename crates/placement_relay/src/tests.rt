@@ -1,111 +1,16 @@
 //! Programs, choices and policies of small worlds.
-ghost use Rattle.std.specs.Prelude.{◌≤◌, IfOk};
-ghost use Rattle.span_base.specs.Name.{IsName};
-ghost use Rattle.placement_relay.specs.Laws.{IsDirectSet};
+ghost use Rattle.placement_relay.specs.Laws.{IsEventualSet};
 
-use crate::{decode, encode, is_direct_set, place};
-use price_tables::{DcPrice, Fare, Tables};
-use slo_rules::fault_of;
-use span_base::{DcId, DcSet, Listed, Near, Policy, SetId, Word, read_name};
+use crate::worlds::{three_centres, two_centres};
+use crate::{decode, encode, place};
+use slo_rules::{cost, fault_of, fits};
+use span_base::{DcId, DcSet, Hop, Listed, Near, Policy, SetId};
 use std::alloc::{AllocError, Global};
 use std::test::Fail;
-use workload::{Demand, Mode, SetRule, Workload, World};
+use workload::World;
+use zero_one::{Bits, Program};
 
 const SET: SetId = SetId(0);
-
-fn name(alloc: Global, text: &str) -> Result<Word, Fail>
-    ensures { IfOk result IsName }
-{
-    let name = Word::from_string(String::from_str(alloc, text)?);
-    read_name(name.as_bytes())?;
-    Ok(name)
-}
-
-fn add_centre(alloc: Global, tables: &mut Tables, centre: &str, store: u64) -> Result<(), Fail> {
-    let name = name(alloc, centre)?;
-    let price = DcPrice {
-        store,
-        get: 5,
-        put: 7,
-    };
-    tables.add_dc(alloc, &name, &name, price)?;
-    Ok(())
-}
-
-/// Adds links, each from a centre to another with the price of a KiB and the round trip.
-fn add_links(
-    alloc: Global,
-    tables: &mut Tables,
-    links: &[(&str, &str, u64, u32)],
-) -> Result<(), Fail> {
-    for (from, to, transfer, latency) in links {
-        let fare = Fare {
-            transfer: *transfer,
-            latency: *latency,
-        };
-        tables.add_link(&name(alloc, from)?, &name(alloc, to)?, fare)?;
-    }
-    Ok(())
-}
-
-/// A dear centre, and a cheap one 20 ms away.
-fn dear_and_cheap(alloc: Global) -> Result<Tables, Fail> {
-    let mut tables = Tables::make(alloc)?;
-    add_centre(alloc, &mut tables, "x", 10)?;
-    add_centre(alloc, &mut tables, "y", 1)?;
-    let links = [
-        ("x", "x", 0, 1),
-        ("x", "y", 3, 20),
-        ("y", "x", 3, 20),
-        ("y", "y", 0, 1),
-    ];
-    add_links(alloc, &mut tables, &links)?;
-    Ok(tables)
-}
-
-/// One direct set with one member, in the first centre, that asks for so many providers.
-fn one_set(alloc: Global, providers: u8) -> Result<Workload, Fail>
-    requires { 1 ≤ providers }
-{
-    let rule = SetRule {
-        mode: Mode::Direct,
-        f: 0,
-        read_slo: 30,
-        write_slo: 30,
-        stored: 100,
-        object: 2,
-        providers,
-    };
-    let member = Demand {
-        dc: DcId(0),
-        gets: 10,
-        puts: 4,
-    };
-    let set = name(alloc, "s")?;
-    let mut load = Workload::make(alloc);
-    load.add_set(alloc, &set, rule)?;
-    load.add_demand(&set, member)?;
-    Ok(load)
-}
-
-fn world_of(tables: Tables, load: Workload) -> Result<World, Fail> {
-    if !load.are_in_centres(tables.count()) {
-        return Err(Fail::new("a member in no centre"));
-    }
-    Ok(World::make(tables, load)?)
-}
-
-/// A dear centre with the one member, and a cheap one 20 ms away, each of its own provider.
-fn two_centres(alloc: Global, providers: u8) -> Result<World, Fail>
-    requires { 1 ≤ providers }
-    ensures { IfOk result (λ world. IsDirectSet world 0) }
-{
-    let world = world_of(dear_and_cheap(alloc)?, one_set(alloc, providers)?)?;
-    if world.sets() == 0 || !is_direct_set(&world, SET) {
-        return Err(Fail::new("no direct set"));
-    }
-    Ok(world)
-}
 
 /// A policy with the primary of the one member.
 fn at(alloc: Global, bits: u16, primary: u8) -> Result<Policy, AllocError> {
@@ -127,7 +32,7 @@ fn there_and_back(
     policy: &Policy,
     bits: &[bool],
 ) -> Result<bool, AllocError>
-    requires { IsDirectSet world.now 0 }
+    requires { IsEventualSet world.now 0 }
 {
     if fault_of(world, SET, policy).is_some() {
         return Ok(false);
@@ -160,6 +65,97 @@ fn two_providers_are_chosen(rt: HostRuntime) -> Result<(), Fail> {
     assert!(rt; encode(alloc, &world, SET)?.costs() == [1028, 152, 50, 110, 0, 0].as_slice());
     let policy = at(alloc, 3, 0)?;
     let bits = [true, true, true, false, true, true];
+    assert!(rt; there_and_back(alloc, &world, &policy, bits.as_slice())?);
+    Ok(())
+}
+
+/// The relay policy of the three centres with this number: its replicas, then the primary of the one
+/// member, then the parent for each centre.
+fn relay_policy(alloc: Global, number: u16) -> Result<Policy, AllocError> {
+    let replicas = DcSet::from_bits(number % 8);
+    let near = Near {
+        member: DcId(0),
+        at: DcId((number / 8 % 3) as u8),
+    };
+    let mut rest = number / 24;
+    let mut parent = Listed::new(alloc);
+    for d in 0..3 {
+        if replicas.has(DcId(d)) {
+            parent.push(Hop {
+                member: DcId(0),
+                child: DcId(d),
+                parent: DcId((rest % 3) as u8),
+            })?;
+        }
+        rest /= 3;
+    }
+    Ok(Policy::Relay {
+        f: 0,
+        replicas,
+        primary: Listed::from_vec(vec![in alloc; near]?),
+        parent,
+    })
+}
+
+/// The least cost of an allowed policy of the three centres.
+fn least_cost(alloc: Global, world: &World) -> Result<u128, AllocError>
+    requires { IsEventualSet world.now 0 }
+{
+    let mut least = u128::MAX;
+    for number in 0..8 * 3 * 27 {
+        let policy = relay_policy(alloc, number)?;
+        if fault_of(world, SET, &policy).is_none() && fits(world, SET, &policy) {
+            least = least.min(cost(world, SET, &policy));
+        }
+    }
+    Ok(least)
+}
+
+/// The choice whose bits are the last ones of a number, the least first.
+fn choice(alloc: Global, number: u32, count: usize) -> Result<Bits, AllocError> {
+    let mut bits = Vec::with_capacity(alloc, count)?;
+    let mut rest = number;
+    for _ in 0..count {
+        bits.push(rest % 2 == 1)?;
+        rest /= 2;
+    }
+    Ok(Bits::from_vec(bits))
+}
+
+/// The least value of a choice that meets the program of the three centres.
+fn least_value(alloc: Global, program: &Program) -> Result<u128, AllocError> {
+    let mut least = u128::MAX;
+    for number in 0..1 << 15 {
+        let x = choice(alloc, number, program.costs().len())?;
+        if x.as_slice().len() == program.costs().len() && program.broken_row(&x).is_none() {
+            least = least.min(program.value(&x));
+        }
+    }
+    Ok(least)
+}
+
+#[test]
+fn a_relayed_hop_is_least(rt: HostRuntime) -> Result<(), Fail> {
+    let alloc = rt.alloc();
+    let world = three_centres(alloc)?;
+    let program = encode(alloc, &world, SET)?;
+    assert_eq!(rt; program.costs().len(), 15);
+    assert_eq!(rt; least_value(alloc, &program)?, 22);
+    assert_eq!(rt; least_cost(alloc, &world)?, 22);
+    Ok(())
+}
+
+#[test]
+fn a_relay_policy_is_a_choice(rt: HostRuntime) -> Result<(), Fail> {
+    let alloc = rt.alloc();
+    let world = three_centres(alloc)?;
+    // Replicas in `b` and `c`, reads at `c`, and `b` passes writes on to `c`.
+    let policy = relay_policy(alloc, 6 + 8 * 2 + 24 * (3 + 9))?;
+    let no = false;
+    let yes = true;
+    let bits = [
+        no, yes, yes, no, no, yes, no, no, no, no, yes, yes, no, no, no,
+    ];
     assert!(rt; there_and_back(alloc, &world, &policy, bits.as_slice())?);
     Ok(())
 }

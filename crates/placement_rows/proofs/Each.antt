@@ -1,6 +1,6 @@
 -- A fact of each element of a list, by the way in which the list is made.
-use Rattle.std.proofs.Common.{◌≡◌, ℕ, zero, suc, ◌+◌, ◌<◌, ◌≤◌, List, [], ◌∷◌, ◌++◌, length, get_or, map, subst, inl, inr, arith}
-use Rattle.std.specs.List.{range_with_len, AllByRecursion, flat_map, enumerate_from}
+use Rattle.std.proofs.Common.{◌≡◌, ℕ, zero, suc, ◌+◌, ◌<◌, ◌≤◌, Bool, true, false, cond, ◌||◌, List, [], ◌∷◌, ◌++◌, length, get_or, map, refl, ap, subst, ◌∙◌, inl, inr, arith}
+use Rattle.std.specs.List.{filter, list_any, range_with_len, AllByRecursion, flat_map, enumerate_from}
 use Rattle.std.proofs.lemmas.Bool.{cases_lt}
 
 -- a fact of each element of two lists, joined
@@ -61,3 +61,37 @@ each-numbered_at P d a (x ∷ xs) all (suc k) h =
 pub each-weaker : {X : Type 0} (P Q : X → Type 0) → ((x : X) → P x → Q x) → (xs : List X) → AllByRecursion P xs → AllByRecursion Q xs
 each-weaker P Q step [] a = tt
 each-weaker P Q step (x ∷ xs) a = (step x a.0, each-weaker P Q step xs a.1)
+
+-- a fact of each number of a range that passes a test
+each-if : (P : ℕ → Type 0) (b : Bool) (d : ℕ) (ds : List ℕ) → (b ≡ true → P d) → AllByRecursion P ds → AllByRecursion P (cond b (d ∷ ds) ds)
+each-if P true d ds here rest = (here refl, rest)
+each-if P false d ds here rest = rest
+
+each-if_back : (P : ℕ → Type 0) (b : Bool) (d : ℕ) (ds : List ℕ) → AllByRecursion P (cond b (d ∷ ds) ds) → (b ≡ true → P d) × AllByRecursion P ds
+each-if_back P true d ds all = (λ is. all.0, all.1)
+each-if_back P false d ds all = (λ is. cc, all)
+
+pub each-kept : (P : ℕ → Type 0) (q : ℕ → Bool) (s n : ℕ) → ((d : ℕ) → s ≤ d → d < s + n → q d ≡ true → P d) → AllByRecursion P (filter q (range_with_len s n))
+each-kept P q s zero f = tt
+each-kept P q s (suc n) f =
+    each-if P (q s) s (filter q (range_with_len (s + 1) n)) (f s (omega arith) (omega arith)) (each-kept P q (s + 1) n (λ d low high. f d (omega arith) (omega arith)))
+
+pub each-kept_at : (P : ℕ → Type 0) (q : ℕ → Bool) (s n : ℕ) → AllByRecursion P (filter q (range_with_len s n)) → (d : ℕ) → s ≤ d → d < s + n → q d ≡ true → P d
+each-kept_at P q s zero all d low high is = absurd (omega arith)
+each-kept_at P q s (suc n) all d low high is =
+    let parts = each-if_back P (q s) s (filter q (range_with_len (s + 1) n)) all in
+    elim (cases_lt s d) [
+      | inl above ↦ each-kept_at P q (s + 1) n parts.1 d (omega arith) (omega arith) is
+      | inr below ↦
+          let same : s ≡ d = omega arith in
+          subst P same (parts.0 (ap q same ∙ is))
+    ]
+
+-- what holds of each element that passes a test holds where some element passes it
+any-either : {X : Type 0} (t : X → Bool) (Q : Type 0) (x : X) (xs : List X) (b : Bool) → t x ≡ b → (t x ≡ true → Q) → (list_any t xs ≡ true → Q) → (b || list_any t xs) ≡ true → Q
+any-either t Q x xs true e here later is = here e
+any-either t Q x xs false e here later is = later is
+
+pub any-each : {X : Type 0} (t : X → Bool) (P : X → Type 0) (Q : Type 0) → ((x : X) → P x → t x ≡ true → Q) → (xs : List X) → AllByRecursion P xs → list_any t xs ≡ true → Q
+any-each t P Q each [] all is = cc
+any-each t P Q each (x ∷ xs) all is = any-either t Q x xs (t x) refl (each x all.0) (any-each t P Q each xs all.1) is

@@ -31,14 +31,11 @@ range_rises n k inside =
     let long = length-range_with_len 0 n in
     omega (arith, long, get_or-range_with_len 0 n k 0 (omega arith), get_or-range_with_len 0 n (k + 1) 0 (omega arith))
 
-shifted_rises : (o : ℕ) (xs : List ℕ) → IsStrictlyIncreasing xs → IsStrictlyIncreasing (map (λ d. o + d) xs)
-shifted_rises o xs rising k inside =
-    let long = length-map xs (λ d. o + d) in
-    omega (arith, rising k (omega arith), get_or-map (λ d. o + d) xs k 0 0 (omega arith), get_or-map (λ d. o + d) xs (k + 1) 0 0 (omega arith))
-
-weight_of_plus : (o : ℕ) (ds : List ℕ) → sum_by (λ (entry : Entry). unsigned_abs entry.coef) (map (λ d. plus (o + d)) ds) ≡ length ds
-weight_of_plus o [] = refl
-weight_of_plus o (d ∷ ds) = omega (arith, sum_by-cons (λ (entry : Entry). unsigned_abs entry.coef) (plus (o + d)) (map (λ d. plus (o + d)) ds), weight_of_plus o ds)
+mapped_rises : (var : ℕ → ℕ) → ((d e : ℕ) → d < e → var d < var e) → (xs : List ℕ) → IsStrictlyIncreasing xs → IsStrictlyIncreasing (map var xs)
+mapped_rises var up xs rising k inside =
+    let long = length-map xs var in
+    let step = up (get_or xs k 0) (get_or xs (k + 1) 0) (rising k (omega arith)) in
+    omega (arith, step, get_or-map var xs k 0 0 (omega arith), get_or-map var xs (k + 1) 0 0 (omega arith))
 
 each-filter : (P : ℕ → Type 0) (p : ℕ → Bool) (xs : List ℕ) → AllByRecursion P xs → AllByRecursion P (filter p xs)
 each-filter P p [] all = tt
@@ -47,16 +44,47 @@ each-filter P p (x ∷ xs) all = elim (p x) as (λ b. AllByRecursion P (cond b (
   | false ↦ each-filter P p xs all.1
 ]
 
--- a row that adds the variables of some centres
-pub plus_row : (count o n least : ℕ) (p : ℕ → Bool) → o + n ≤ count → n ≤ 16 → least ≤ 4 → IsFit count (record { entries = map (λ d. plus (o + d)) (filter p (range_with_len 0 n)); bound = pos least })
-plus_row count o n least p low few small =
+weight_of_items : {X : Type 0} (var : X → ℕ) (xs : List X) → sum_by (λ (entry : Entry). unsigned_abs entry.coef) (map (λ x. plus (var x)) xs) ≡ length xs
+weight_of_items var [] = refl
+weight_of_items var (x ∷ xs) = omega (arith, sum_by-cons (λ (entry : Entry). unsigned_abs entry.coef) (plus (var x)) (map (λ x. plus (var x)) xs), weight_of_items var xs)
+
+-- a row that adds the variables of some centres, which rise with these
+pub rising_row : (count n least : ℕ) (var : ℕ → ℕ) (p : ℕ → Bool) → ((d e : ℕ) → d < e → var d < var e) → ((d : ℕ) → d < n → var d < count) → n ≤ 16 → least ≤ 4
+    → IsFit count (record { entries = map (λ d. plus (var d)) (filter p (range_with_len 0 n)); bound = pos least })
+rising_row count n least var p up low few small =
     let near = filter p (range_with_len 0 n) in
-    let vars = map-map (λ (entry : Entry). entry.var) (λ d. plus (o + d)) near in
+    let vars = map-map (λ (entry : Entry). entry.var) (λ d. plus (var d)) near in
     record {
-      known = All-from_recursion (λ (entry : Entry). entry.var < count) (map (λ d. plus (o + d)) near)
-          (each-map (λ (entry : Entry). entry.var < count) (λ d. d < n) (λ d. plus (o + d)) (λ d below. omega arith) near (each-filter (λ d. d < n) p (range_with_len 0 n) (each-range (λ d. d < n) 0 n (λ d from to. omega arith))));
-      rising = subst IsStrictlyIncreasing (sym vars) (shifted_rises o near (IsStrictlyIncreasing-filter p (range_with_len 0 n) (range_rises n)));
-      light = omega (arith, weight_of_plus o near, length-filter p (range_with_len 0 n), count_by-le-length p (range_with_len 0 n), length-range_with_len 0 n);
+      known = All-from_recursion (λ (entry : Entry). entry.var < count) (map (λ d. plus (var d)) near)
+          (each-map (λ (entry : Entry). entry.var < count) (λ d. d < n) (λ d. plus (var d)) low near (each-filter (λ d. d < n) p (range_with_len 0 n) (each-range (λ d. d < n) 0 n (λ d from to. omega arith))));
+      rising = subst IsStrictlyIncreasing (sym vars) (mapped_rises var up near (IsStrictlyIncreasing-filter p (range_with_len 0 n) (range_rises n)));
+      light = omega (arith, weight_of_items var near, length-filter p (range_with_len 0 n), count_by-le-length p (range_with_len 0 n), length-range_with_len 0 n);
+    }
+
+-- the same, where the variables follow one another
+pub plus_row : (count o n least : ℕ) (p : ℕ → Bool) → o + n ≤ count → n ≤ 16 → least ≤ 4 → IsFit count (record { entries = map (λ d. plus (o + d)) (filter p (range_with_len 0 n)); bound = pos least })
+plus_row count o n least p low few small = rising_row count n least (λ d. o + d) p (λ d e lt. omega arith) (λ d below. omega arith) few small
+
+-- a variable below all others may come first
+rise-first : (z : ℕ) (xs : List ℕ) → IsStrictlyIncreasing xs → All (λ v. z < v) xs → IsStrictlyIncreasing (z ∷ xs)
+rise-first z xs rising above zero inside = above 0 0 (omega arith)
+rise-first z xs rising above (suc k) inside =
+    let at : suc (k + 1) ≡ suc k + 1 = omega arith in
+    subst (λ i. slice_index xs k < slice_index (z ∷ xs) i) at (rising k (omega arith))
+
+-- a row that takes a variable from those of all centres, which follow it and rise with these
+pub answered_row : (count first n : ℕ) (var : ℕ → ℕ) → ((d e : ℕ) → d < e → var d < var e) → ((d : ℕ) → d < n → (first < var d) × (var d < count)) → first < count → n ≤ 16
+    → IsFit count (record { entries = minus first ∷ map (λ d. plus (var d)) (range_with_len 0 n); bound = pos 0 })
+answered_row count first n var up within low few =
+    let ds = range_with_len 0 n in
+    let vars = map-map (λ (entry : Entry). entry.var) (λ d. plus (var d)) ds in
+    let each : AllByRecursion (λ d. d < n) ds = each-range (λ d. d < n) 0 n (λ d from to. omega arith) in
+    record {
+      known = All-from_recursion (λ (entry : Entry). entry.var < count) (minus first ∷ map (λ d. plus (var d)) ds)
+          (low, each-map (λ (entry : Entry). entry.var < count) (λ d. d < n) (λ d. plus (var d)) (λ d below. (within d below).1) ds each);
+      rising = subst (λ vs. IsStrictlyIncreasing (first ∷ vs)) (sym vars) (rise-first first (map var ds) (mapped_rises var up ds (range_rises n))
+          (All-from_recursion (λ v. first < v) (map var ds) (each-map (λ v. first < v) (λ d. d < n) var (λ d below. (within d below).0) ds each)));
+      light = omega (arith, sum_by-cons (λ (entry : Entry). unsigned_abs entry.coef) (minus first) (map (λ d. plus (var d)) ds), weight_of_items var ds, length-range_with_len 0 n);
     }
 
 two_rise : (u v k : ℕ) → u < v → k + 1 < 2 → slice_index (u ∷ v ∷ []) k < slice_index (u ∷ v ∷ []) (k + 1)
@@ -71,6 +99,14 @@ two_row count u v rising low = record {
   light = omega arith;
 }
 
+-- a row of two variables of which the first is taken away
+pub two_row_back : (count u v : ℕ) → u < v → v < count → IsFit count (record { entries = minus u ∷ plus v ∷ []; bound = pos 0 })
+two_row_back count u v rising low = record {
+  known = All-from_recursion (λ (entry : Entry). entry.var < count) (minus u ∷ plus v ∷ []) (omega arith, (low, tt));
+  rising = λ k inside. two_rise u v k rising inside;
+  light = omega arith;
+}
+
 -- a variable above all others may come last
 rise-last : (xs : List ℕ) (z : ℕ) → IsStrictlyIncreasing xs → All (λ v. v < z) xs → IsStrictlyIncreasing (xs ++ z ∷ [])
 rise-last xs z rising below k inside = elim (cases_lt (k + 1) (length xs)) [
@@ -80,10 +116,6 @@ rise-last xs z rising below k inside = elim (cases_lt (k + 1) (length xs)) [
       let in' : k < length xs = omega arith in
       omega (arith, below k 0 in', get_or_append_left xs (z ∷ []) 0 k in', ap (λ i. get_or (xs ++ z ∷ []) i 0) at, get_or-append-add xs (z ∷ []) 0 0)
 ]
-
-weight_of_items : {X : Type 0} (var : X → ℕ) (xs : List X) → sum_by (λ (entry : Entry). unsigned_abs entry.coef) (map (λ x. plus (var x)) xs) ≡ length xs
-weight_of_items var [] = refl
-weight_of_items var (x ∷ xs) = omega (arith, sum_by-cons (λ (entry : Entry). unsigned_abs entry.coef) (plus (var x)) (map (λ x. plus (var x)) xs), weight_of_items var xs)
 
 module _ (w : Lists) (set : ℕ) (count first : ℕ) (keeping : List (ℕ × ℕ)) (rising : AllPairs (λ a b. a.0 < b.0) keeping) (below : AllByRecursion (λ k. k.0 < first) keeping) (few : length keeping ≤ 256) where
   each-kept : (p : ℕ × ℕ → Bool) (ks : List (ℕ × ℕ)) → AllByRecursion (λ k. k.0 < first) ks → AllByRecursion (λ k. k.0 < first) (filter p ks)

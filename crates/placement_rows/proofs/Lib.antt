@@ -1,7 +1,11 @@
 pub mod Sums
 pub mod Each
 pub mod Values
+pub mod Pieces
+pub mod SumRows
+pub mod Growing
 pub mod Loops
+pub mod Collected
 pub mod ProviderCounts
 pub mod ProviderRows
 pub mod Fits

@@ -12,6 +12,15 @@ use Rattle.placement_rows.proofs.Sums.{range-append}
 pub map_next : {X : Type 0} (f : ℕ → X) (d : ℕ) → map f (range_with_len 0 (d + 1)) ≡ map f (range_with_len 0 d) ++ f d ∷ []
 map_next f d = map-range_with_len_more f 0 d d (omega arith)
 
+-- the pieces of one number more of a range
+pub pieces_next : {X : Type 0} (f : ℕ → List X) (d : ℕ) → flat_map f (range_with_len 0 (d + 1)) ≡ flat_map f (range_with_len 0 d) ++ f d
+pieces_next f d =
+    let at : 0 + d ≡ d = omega arith in
+    ap (flat_map f) (range-append 0 d 1)
+    ∙ flat_map-append f (range_with_len 0 d) (range_with_len (0 + d) 1)
+    ∙ ap (λ e. flat_map f (range_with_len 0 d) ++ (f e ++ [])) at
+    ∙ ap (λ ys. flat_map f (range_with_len 0 d) ++ ys) (append-nil (f d))
+
 filter_next : (p : ℕ → Bool) (d : ℕ) → filter p (range_with_len 0 (d + 1)) ≡ filter p (range_with_len 0 d) ++ cond (p d) (d ∷ []) []
 filter_next p d =
     let at : 0 + d ≡ d = omega arith in
@@ -52,7 +61,7 @@ kept_next_in f p d is = ap (map f) (filter_next_in p d is) ∙ map-append f (fil
 pub kept_next_out : {X : Type 0} (f : ℕ → X) (p : ℕ → Bool) (d : ℕ) → p d ≡ false → map f (filter p (range_with_len 0 (d + 1))) ≡ map f (filter p (range_with_len 0 d))
 kept_next_out f p d is = ap (map f) (filter_next_out p d is)
 
-pub ruleset loops = (map_next, filter_next_in, filter_next_out, append_assoc)
+pub ruleset loops = (map_next, pieces_next, filter_next_in, filter_next_out, append_assoc)
 
 pub ruleset kept = (kept_next_in, kept_next_out, append_assoc)
 
@@ -96,3 +105,22 @@ pub search_end : (p q : ℕ → Bool) (d n : ℕ) → n ≤ d → find p (filter
 search_end p q d n past =
     let left : n - d ≡ 0 = omega arith in
     ap (λ k. find p (filter q (range_with_len d k))) left
+
+-- a search among the numbers from one on
+first_step : (p : ℕ → Bool) (d n : ℕ) → d < n → find p (range_with_len d (n - d)) ≡ cond (p d) (Some d) (find p (range_with_len (d + 1) (n - (d + 1))))
+first_step p d n low =
+    let left : n - d ≡ suc (n - (d + 1)) = omega arith in
+    ap (λ k. find p (range_with_len d k)) left
+
+pub first_hit : (p : ℕ → Bool) (d n : ℕ) → d < n → p d ≡ true → find p (range_with_len d (n - d)) ≡ Some d
+first_hit p d n low is = first_step p d n low ∙ ap (λ b. cond b (Some d) (find p (range_with_len (d + 1) (n - (d + 1))))) is
+
+pub first_miss : (p : ℕ → Bool) (d n : ℕ) → d < n → p d ≡ false → find p (range_with_len d (n - d)) ≡ find p (range_with_len (d + 1) (n - (d + 1)))
+first_miss p d n low is = first_step p d n low ∙ ap (λ b. cond b (Some d) (find p (range_with_len (d + 1) (n - (d + 1))))) is
+
+pub first_end : (p : ℕ → Bool) (d n : ℕ) → n ≤ d → find p (range_with_len d (n - d)) ≡ None
+first_end p d n past =
+    let left : n - d ≡ 0 = omega arith in
+    ap (λ k. find p (range_with_len d k)) left
+
+pub ruleset firsts = (first_hit, first_miss, first_end)

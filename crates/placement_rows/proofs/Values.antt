@@ -137,3 +137,18 @@ meets-backed x g ds last h = subst (λ z. pos 0 ≤ℤ z) (sym (row_sum-backed x
 
 pub meets-backed-back : {X : Type 0} (x : List Bool) (g : X → ℕ) (ds : List X) (last : ℕ) → pos 0 ≤ℤ row_sum (map (λ d. plus (g d)) ds ++ minus last ∷ []) x → bit_of x last ≡ true → 1 ≤ count_by (λ d. bit_of x (g d)) ds
 meets-backed-back x g ds last h = enough-back (bit_of x last) (count_by (λ d. bit_of x (g d)) ds) (subst (λ z. pos 0 ≤ℤ z) (row_sum-backed x g ds last) h)
+
+ready : (q : Bool) (c : ℕ) → (q ≡ true → 1 ≤ c) → pos 0 ≤ℤ (cond q (negsuc 0) (pos 0) +ℤ pos c)
+ready true c h = let some = h refl in omega (arith, ints, some)
+ready false c h = omega (arith, ints)
+
+ready-back : (q : Bool) (c : ℕ) → pos 0 ≤ℤ (cond q (negsuc 0) (pos 0) +ℤ pos c) → q ≡ true → 1 ≤ c
+ready-back true c h e = omega (arith, ints)
+ready-back false c h e = cc
+
+-- a row that takes its first variable from the others is met where one of these is 1 if that one is
+pub meets-answered : {X : Type 0} (x : List Bool) (g : X → ℕ) (ds : List X) (first : ℕ) → (bit_of x first ≡ true → 1 ≤ count_by (λ d. bit_of x (g d)) ds) → pos 0 ≤ℤ row_sum (minus first ∷ map (λ d. plus (g d)) ds) x
+meets-answered x g ds first h = subst (λ z. pos 0 ≤ℤ (cond (bit_of x first) (negsuc 0) (pos 0) +ℤ z)) (sym (row_sum-plus x g ds)) (ready (bit_of x first) (count_by (λ d. bit_of x (g d)) ds) h)
+
+pub meets-answered-back : {X : Type 0} (x : List Bool) (g : X → ℕ) (ds : List X) (first : ℕ) → pos 0 ≤ℤ row_sum (minus first ∷ map (λ d. plus (g d)) ds) x → bit_of x first ≡ true → 1 ≤ count_by (λ d. bit_of x (g d)) ds
+meets-answered-back x g ds first h = ready-back (bit_of x first) (count_by (λ d. bit_of x (g d)) ds) (subst (λ z. pos 0 ≤ℤ (cond (bit_of x first) (negsuc 0) (pos 0) +ℤ z)) (row_sum-plus x g ds) h)

@@ -1,5 +1,5 @@
 -- The centres and the members of a set, over which its program has variables.
-use Rattle.std.specs.Prelude.{ℕ, List}
+use Rattle.std.specs.Prelude.{ℕ, List, length}
 use Rattle.std.specs.List.{enumerate_from, filter, range_with_len}
 use Rattle.workload.specs.World.{Lists, centre_count, rule_of, members_of}
 use Rattle.workload.specs.declared.rules.Demand.{Demand}
@@ -12,6 +12,9 @@ centres w = range_with_len 0 (centre_count w)
 -- the members of a set with their numbers
 abbrev pub numbered_members : Lists → ℕ → List (ℕ × Demand)
 numbered_members w set = enumerate_from 0 (members_of w set)
+
+abbrev pub member_numbers : Lists → ℕ → List ℕ
+member_numbers w set = range_with_len 0 (length (members_of w set))
 
 -- the centres that are read-near to a member, and those that are write-near
 abbrev pub read_near : Lists → ℕ → Demand → List ℕ

@@ -5,7 +5,7 @@ use Rattle.workload.specs.World.{members_of}
 use Rattle.placement_rows.specs.Centres.{numbered_members}
 use Rattle.placement_relay.specs.Placed.{chosen_primary}
 use Rattle.placement_rows.proofs.Loops.{numbered_next}
-use Rattle.placement_relay.proofs.MetRows.{nobody}
+use Rattle.placement_relay.proofs.Members.{nobody}
 use Rattle.placement_relay.proofs.decoding.chosen_primaries.Goals as goal
 
 pub loop-a-preserved : goal.loop-a-preserved

@@ -6,7 +6,6 @@ use Rattle.slo_rules.specs.Rules.{is_read_near}
 use Rattle.zero_one.specs.Rows.{bit_of}
 use Rattle.placement_relay.specs.Reading.{h}
 use Rattle.placement_relay.specs.Placed.{or_first}
-use Rattle.placement_relay.proofs.Limits.{variables}
 use Rattle.placement_rows.proofs.Loops.{search_hit, search_far, search_miss}
 use Rattle.placement_relay.proofs.decoding.chosen_primary.Goals as goal
 use Rattle.placement_relay.proofs.decoding.chosen_primary.Goals.{else-is_read_near-via-then-is_read_near+else-x-first, else-is_read_near-via-else-is_read_near}
@@ -15,7 +14,7 @@ pub bounds-x-first : goal.bounds-x-first
 bounds-x-first c =
     let n = centre_count c.args.world.now in
     let block : (c.args.a + 1) * n ≤ length (members_of c.args.world.now c.args.set.0) * n = mul-le (c.args.a + 1) n (length (members_of c.args.world.now c.args.set.0)) n (omega arith) (omega arith) in
-    omega (arith, variables c.args.world.now c.args.set.0 c.requires.direct, block)
+    omega (arith, c.requires.bits, block)
 
 pub returns-then-x-first : goal.returns-then-x-first
 returns-then-x-first c =

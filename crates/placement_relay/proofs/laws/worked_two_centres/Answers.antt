@@ -1,7 +1,14 @@
-use Rattle.std.proofs.Common.{refl, arith}
+use Rattle.std.proofs.Common.{[], ◌∷◌, refl, arith}
 use Rattle.std.proofs.lemmas.List.Elements.{All-from_recursion}
 use Rattle.price_tables.specs.Limits.{IsPriceWithin, IsFareWithin}
-use Rattle.workload.specs.World.{IsComplete, IsSetWithin, IsDemandWithin, set_of, members_of}
+use Rattle.std.specs.Prelude.{codes, nat_eq}
+use Rattle.std.specs.List.{IsDistinct}
+use Rattle.std.specs.Cmp.Lexicographic.{pointwise}
+use Rattle.std.proofs.lemmas.Map.Keys.{IsDistinct-cons, IsDistinct-from_apart}
+use Rattle.span_base.specs.Name.{IsName}
+use Rattle.workload.specs.Limits.{AreCountsWithin}
+use Rattle.workload.specs.Load.{IsSetLoaded, AreLoaded}
+use Rattle.workload.specs.World.{IsComplete, IsNamed, IsSetWithin, IsDemandWithin, set_of, members_of}
 use Rattle.slo_rules.specs.Examples.{two_centres, fare}
 use Rattle.placement_relay.specs.Programs.{set_program}
 use Rattle.span_base.specs.DcSet.{centres_of, centres_below}
@@ -33,8 +40,35 @@ complete = record {
   sets = All-from_recursion (IsSetWithin 2) two_centres.sets (set_within, tt);
 }
 
+alone : IsDistinct (pointwise nat_eq) []
+alone = IsDistinct-from_apart (pointwise nat_eq) [] (λ i j d lt in'. absurd (omega arith))
+
+loaded : AreLoaded two_centres.sets
+loaded = record {
+  few = omega arith;
+  distinct = IsDistinct-cons (pointwise nat_eq) (codes "s") [] tt alone;
+  each = All-from_recursion IsSetLoaded two_centres.sets (
+    record {
+      name = refl;
+      rule = set_within.rule;
+      few = omega arith;
+      counts = All-from_recursion AreCountsWithin (members_of two_centres 0) (record { gets = omega arith; puts = omega arith }, tt);
+      distinct = λ i j d lt in'. absurd (omega arith);
+    },
+    tt,
+  );
+}
+
+named : IsNamed two_centres
+named = record {
+  names = All-from_recursion (λ c. IsName c.name) two_centres.centres (refl, (refl, tt));
+  providers = All-from_recursion (λ c. IsName c.provider) two_centres.centres (refl, (refl, tt));
+  distinct = IsDistinct-cons (pointwise nat_eq) (codes "x") (codes "y" ∷ []) (refl, tt) (IsDistinct-cons (pointwise nat_eq) (codes "y") [] tt alone);
+  sets = loaded;
+}
+
 pub returns-clause-set : goal.returns-clause-set
-returns-clause-set c = record { complete = complete; there = omega arith; mode = refl }
+returns-clause-set c = record { complete = complete; named = named; there = omega arith; mode = λ e. cc }
 
 pub returns-clause-program : goal.returns-clause-program
 unfolding set_program

@@ -5,7 +5,7 @@ use Rattle.workload.specs.World.{members_of}
 use Rattle.placement_rows.specs.Centres.{numbered_members}
 use Rattle.placement_relay.specs.Reading.{reads_somewhere}
 use Rattle.placement_rows.proofs.Loops.{numbered_next}
-use Rattle.placement_relay.proofs.MetRows.{nobody}
+use Rattle.placement_relay.proofs.Members.{nobody}
 use Rattle.placement_relay.proofs.rows.push_reads_somewhere.Goals as goal
 
 pub loop-a-preserved : goal.loop-a-preserved
