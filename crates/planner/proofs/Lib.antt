@@ -2,8 +2,7 @@ pub mod Plain
 pub mod WellFormed
 pub mod Closing
 pub mod Ends
-pub mod Texts
-pub mod Policies
 pub mod Parts
 pub mod PartLaws
 pub mod Fronts
+pub mod PlanTexts

@@ -1,31 +1,13 @@
-use Rattle.std.specs.Prelude.{ℕ, ◌+◌, List, [], ◌∷◌, ◌++◌, codes, length, Option, Some, None}
+use Rattle.std.specs.Prelude.{ℕ, ◌+◌, List, [], ◌∷◌, ◌++◌, codes, length}
 use Rattle.std.specs.List.{flat_map}
 use Rattle.std.specs.Fmt.{decimal}
 use Rattle.bound_cert.specs.declared.leaves.Line.{Line}
 use Rattle.bound_cert.specs.Text.{line_text}
-use Rattle.zero_one.specs.Contents.{Contents}
 use Rattle.workload.specs.World.{Lists, set_of, rule_of}
 use Rattle.workload.specs.Modes.{word_of}
-use Rattle.workload.specs.declared.rules.Mode.{Mode}
-use Rattle.workload.specs.declared.rules.Mode.TheVariants.{Direct, Relay, Strong}
-use Rattle.placement_relay.specs.Programs.{set_program}
+use Rattle.placement.specs.Placement.{program_of}
 use Rattle.planner.specs.Parts.{Ending, complete, none_allowed, Part}
-use Rattle.planner.specs.PolicyText.{policy_text}
-
--- the 0-1 program of a set of this mode, where there is one: so far for a direct set
-abbrev pub mode_program : Mode → Lists → ℕ → Option Contents
-mode_program Direct w set = Some (set_program w set)
-mode_program Relay w set = None
-mode_program Strong w set = None
-
--- the 0-1 program of a set, by its own mode
-abbrev pub program_of : Lists → ℕ → Option Contents
-program_of w set = mode_program (rule_of w set).mode w set
-
--- how many variables a program has, 0 where there is none
-abbrev pub variables_in : Option Contents → ℕ
-variables_in (Some program) = length program.costs
-variables_in None = 0
+use Rattle.slo_rules.specs.PolicyText.{policy_text}
 
 -- the line that begins the part of a set: its name, its mode and its number of variables
 abbrev pub set_line : Lists → ℕ → ℕ → List ℕ
@@ -51,7 +33,7 @@ ending_text w none_allowed = codes "result none\n"
 
 -- the part of a set
 abbrev pub part_text : Lists → ℕ → Part → List ℕ
-part_text w set part = set_line w set (variables_in (program_of w set)) ++ tree_text part.lines ++ ending_text w part.ending
+part_text w set part = set_line w set (length (program_of w set).costs) ++ tree_text part.lines ++ ending_text w part.ending
 
 -- the parts of the sets from one on
 abbrev pub parts_text : Lists → ℕ → List Part → List ℕ

@@ -1,14 +1,14 @@
-use Rattle.std.specs.Prelude.{◌≡◌, ℕ, ◌<◌, ◌++◌, List, length, Option, Some, None, slice_get, true, false}
+use Rattle.std.specs.Prelude.{◌≡◌, ℕ, ◌<◌, ◌++◌, List, length, Some, slice_get, true, false}
 use Rattle.bound_cert.specs.declared.leaves.Goal.{Goal}
 use Rattle.bound_cert.specs.declared.leaves.Goal.TheVariants.{Cost, Nothing}
 use Rattle.bound_cert.specs.declared.leaves.Line.{Line}
 use Rattle.bound_cert.specs.Trees.{IsProof}
-use Rattle.zero_one.specs.Contents.{Contents}
 use Rattle.workload.specs.World.{Lists}
 use Rattle.slo_rules.specs.Rules.{IsAllowed}
 use Rattle.slo_rules.specs.Cost.{policy_cost, IsLeast, HasNoPolicy}
 use Rattle.planner.specs.Parts.{Ending, complete, none_allowed, Part, completes}
-use Rattle.planner.specs.PlanText.{program_of, plan_text}
+use Rattle.placement.specs.Placement.{program_of}
+use Rattle.planner.specs.PlanText.{plan_text}
 
 -- what the tree of a part has to show
 abbrev pub goal_of : Ending → Goal
@@ -20,14 +20,9 @@ abbrev pub FitsSet : Lists → ℕ → Ending → Type 0
 FitsSet w set (complete cost policy) = IsAllowed w set policy × (policy_cost w set policy ≡ cost)
 FitsSet w set none_allowed = Unit {0}
 
--- lines are a proof of a goal for a program, where there is one
-abbrev pub IsShown : Option Contents → List Line → Goal → Type 0
-IsShown (Some program) lines goal = IsProof program lines goal
-IsShown None lines goal = ⊥
-
 -- a part is accepted for a set: its lines are a proof of what its ending says, for the set's program
 pub record IsAcceptedPart (w : Lists) (set : ℕ) (part : Part) : Type 0 where
-  pub shown : IsShown (program_of w set) part.lines (goal_of part.ending)
+  pub shown : IsProof (program_of w set) part.lines (goal_of part.ending)
   pub ending : FitsSet w set part.ending
 
 -- a fact holds of each part and the number of its set

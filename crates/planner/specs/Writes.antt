@@ -3,8 +3,7 @@ use Rattle.std.specs.Prelude.{◌≡◌, ℕ, ◌<◌, ◌≤◌, ◌⊎◌, ◌
 use Rattle.span_base.specs.Taken.{Appends}
 use Rattle.span_base.specs.declared.ids.SetId.{SetId}
 use Rattle.workload.specs.World.{Lists}
-use Rattle.placement_relay.specs.Programs.{set_costs}
-use Rattle.placement_relay.specs.Laws.{IsDirectSet}
+use Rattle.placement.specs.Placement.{IsSet, program_of}
 use Rattle.planner.specs.Parts.{Part, completes}
 use Rattle.planner.specs.PlanText.{part_text}
 use Rattle.planner.specs.Plans.{IsLeastPlan, IsPlanWithout, IsPlanFront, IsAcceptedPart, IsTrueOf}
@@ -13,11 +12,11 @@ use Rattle.planner.specs.declared.plan.PlanEnd.TheVariants.{Complete, NoPolicy}
 use Rattle.planner.specs.declared.plan.PlanFault.{PlanFault}
 use Rattle.planner.specs.declared.plan.PlanFault.TheVariants.{WriteFault, NoMemory}
 
--- a set is direct, and has a program of at most 12 variables
+-- a set of a world has a program of at most 12 variables
 abbrev pub IsServedSet : Lists → ℕ → Type 0
-IsServedSet w set = IsDirectSet w set × (length (set_costs w set) ≤ 12)
+IsServedSet w set = IsSet w set × (length (program_of w set).costs ≤ 12)
 
--- every set of a world is direct, and has a program of at most 12 variables
+-- every set of a world has a program of at most 12 variables
 abbrev pub IsServed : Lists → Type 0
 IsServed w = (set : ℕ) → set < length w.sets → IsServedSet w set
 

@@ -4,7 +4,7 @@ ghost use Rattle.planner.specs.Writes.{IsServed, IsServedSet, IsPlanText, PlanWr
 
 use crate::part::write_part;
 use crate::text::{write_begin, write_end};
-use placement_relay::{is_direct_set, variable_count};
+use placement::variable_count;
 use span_base::{DeviceFault, SetId, Sink, write_all};
 use std::alloc::{AllocError, Global};
 use workload::World;
@@ -37,8 +37,7 @@ struct Plan {
     end: PlanEnd,
 }
 
-/// Whether `plan_all` serves a world: each set is direct, and has a program of at most 12
-/// variables.
+/// Whether `plan_all` serves a world: each set has a program of at most 12 variables.
 pub fn is_served(world: &World) -> bool
     ensures { IsTrue result ↔ IsServed world.now }
 {
@@ -54,7 +53,8 @@ fn is_served_set(world: &World, set: SetId) -> bool
     requires { set.0 < length world.now.sets }
     ensures { IsTrue result ↔ IsServedSet world.now set.0 }
 {
-    is_direct_set(world, set) && variable_count(world, set) <= MOST_VARIABLES
+    let _count = world.centre_count();
+    variable_count(world, set) <= MOST_VARIABLES
 }
 
 /// Plans every set of a world, in order, and writes the plan.
