@@ -157,6 +157,7 @@ impl Workload {
         self.sets.len() as u16
     }
 
+    /// The name of a set.
     pub fn set_name(&self, set: SetId) -> &Word
         requires { set.0 < length self.now }
         ensures { result.now ≡ (set_at self.now set.0).name }
@@ -164,6 +165,7 @@ impl Workload {
         &self.sets[set.0 as usize].name
     }
 
+    /// What a set asks for, and what it stores.
     pub fn rule(&self, set: SetId) -> SetRule
         requires { set.0 < length self.now }
         ensures rule { result ≡ (set_at self.now set.0).rule }
