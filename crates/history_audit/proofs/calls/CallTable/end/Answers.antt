@@ -1,0 +1,10 @@
+use Rattle.std.proofs.Common.{◌≡◌, Some, IsSome, sym, refl}
+use Rattle.history_audit.specs.Calls.{look}
+use Rattle.history_audit.proofs.calls.CallTable.end.Goals as goal
+
+pub returns-in-Some : goal.returns-in-Some
+returns-in-Some c = λ other.
+    let e : look c.args.self.now c.args.call ≡ Some c.in-Some.state.now = sym c.in-Some.ensures.value in
+    let there : IsSome (look c.args.self.now c.args.call) = rw e refl in
+    let writes = (c.get_mut.follows.holds (record c.in-Some.state.now { ending = c.args.ending })).3 there in
+    rw e (writes.0 (other.proxy, other.seq))

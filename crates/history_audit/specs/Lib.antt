@@ -1,0 +1,12 @@
+pub mod Words
+pub mod Lines
+pub mod Texts
+pub mod Rows
+pub mod Calls
+pub mod Judged
+pub mod Tables
+pub mod Told
+pub mod Counted
+pub mod Summed
+pub mod Judging
+pub mod Audited
