@@ -4,8 +4,6 @@ use Rattle.std.specs.Prelude.{Result, is_some}
 use Rattle.std.specs.Result.{IsErrAnd}
 use Rattle.run_marks.specs.declared.mark.Mark.{Mark}
 use Rattle.register_order.specs.Clauses.{EachKeeps, KeepsClauses}
-use Rattle.register_order.specs.Form.{KeepsForm}
-use Rattle.register_order.proofs.Lines.{each_weaker}
 use Rattle.history_audit.specs.declared.auditor.Auditor.{Auditor}
 use Rattle.history_audit.specs.declared.judge.Judge.{Judge}
 use Rattle.history_audit.specs.declared.summary.Summary.{Summary}
@@ -17,19 +15,15 @@ use Rattle.history_audit.specs.Told.{KeepsFirst}
 use Rattle.history_audit.specs.Judging.{BreaksFirst, ToldBy, Judges}
 use Rattle.history_audit.specs.Calls.{look}
 use Rattle.history_audit.specs.Tables.{has_key, last_of, top_at, was_drawn}
+use Rattle.history_audit.proofs.Events.{each_push}
 use Rattle.history_audit.proofs.FromCounted.{none_is_dead, in_order}
 use Rattle.history_audit.specs.Audited.{AuditEnds, IsFirstBreak, IsUnbroken, led_by_marks, HasRead, Stands, StandsAt}
 use Rattle.register_order.proofs.FromLog.{unbroken_calls_take_effect}
+use Rattle.std.specs.List.{count_by}
+use Rattle.std.proofs.lemmas.List.Sums.{count_by-le-length}
+use Rattle.history_audit.specs.Summed.{counts_at}
+use Rattle.history_audit.proofs.Effective.{as_many_effects}
 use Rattle.history_audit.proofs.Summing.{sums_up}
-
--- one more line that keeps this
-each_push : (K : List Mark → Mark → Type 0) (before marks : List Mark) (mark : Mark) → EachKeeps K before marks → K (before ++ marks) mark → EachKeeps K before (marks ++ mark ∷ [])
-each_push K before [] mark each one = (subst (λ (ms : List Mark). K ms mark) (append_nil_ before) one, tt)
-  where
-    append_nil_ : (ms : List Mark) → ms ++ [] ≡ ms
-    append_nil_ [] = refl
-    append_nil_ (m ∷ ms) = ap (λ (x : List Mark). m ∷ x) (append_nil_ ms)
-each_push K before (m ∷ ms) mark each one = (each.0, each_push K (before ++ m ∷ []) ms mark each.1 (subst (λ (x : List Mark). K x mark) (sym (append_assoc before (m ∷ []) ms)) one))
 
 pub marks_push : (front : List Mark) (mark : Mark) (left : Result (List Mark) LogFault) → led_by_marks (front ++ mark ∷ []) left ≡ led_by_marks front (led_by_mark mark left)
 marks_push [] mark left = refl
@@ -46,9 +40,6 @@ marks_refused (m ∷ ms) fault = ap (led_by_mark m) (marks_refused ms fault)
 pub stands_on : (front : List Mark) (mark : Mark) (judge : Judge) → EachKeeps KeepsClauses [] front → KeepsFirst front mark → ToldBy (front ++ mark ∷ []) judge → StandsAt (front ++ mark ∷ []) judge None
 stands_on front mark judge each one told = (each_push KeepsClauses [] front mark each clauses, told)
   where
-    first : EachKeeps KeepsFirst [] (front ++ mark ∷ [])
-    first = each_push KeepsFirst [] front mark (each_weaker KeepsClauses KeepsFirst (λ before m kept. record { form = record { call = kept.call; kind = kept.kind; stamp = kept.stamp }; value = kept.value }) [] front each) one
-
     clauses : KeepsClauses front mark
     clauses = record {
       call = one.form.call;
@@ -56,7 +47,7 @@ stands_on front mark judge each one told = (each_push KeepsClauses [] front mark
       stamp = one.form.stamp;
       value = one.value;
       dead = λ key. none_is_dead (front ++ mark ∷ []) (look judge.calls) (last_of judge.lasts) (was_drawn judge.tickets) (top_at judge.tops) told.tells told.counted key;
-      order = λ key. in_order (front ++ mark ∷ []) (look judge.calls) (last_of judge.lasts) (was_drawn judge.tickets) (top_at judge.tops) told.tells told.counted first key;
+      order = λ key. in_order (front ++ mark ∷ []) (look judge.calls) (last_of judge.lasts) (was_drawn judge.tickets) (top_at judge.tops) told.tells told.counted told.kept key;
     }
 
 pub first_break : (front : List Mark) (mark : Mark) (line : ℕ) (broken : Clause) → line ≡ length front + 1 → EachKeeps KeepsClauses [] front → BreaksFirst front mark broken → IsFirstBreak (front ++ mark ∷ []) line broken
@@ -120,5 +111,6 @@ unbroken text front judge says h = record {
   says = says;
   kept = h.0;
   register = λ key. unbroken_calls_take_effect front h.0 key;
-  sums = sums_up text front judge.summary (has_key judge.tops) says h.1.sums;
+  sums = sums_up text front judge.summary (has_key judge.tops) (count_by (counts_at (look judge.calls)) front) says h.1.sums h.1.effects (count_by-le-length (counts_at (look judge.calls)) front)
+      (as_many_effects front (look judge.calls) (last_of judge.lasts) (was_drawn judge.tickets) (top_at judge.tops) h.1.tells h.1.counted);
 }

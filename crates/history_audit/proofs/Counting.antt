@@ -53,6 +53,9 @@ module _ (marks : List Mark) (mark : Mark) (kept : Call → Option CallState) (l
     counts = λ value stamp is one. let it = c.counts value stamp is one in (counts_still marks mark call stamp it.0, it.1);
     writes = c.writes;
     reads = λ stamp value is ended. c.reads stamp value is (end_there (r.Value stamp value) ended);
+    read_counted = λ stamp value does ended. c.read_counted stamp value does (end_there (r.Value stamp value) ended);
+    read_counts = λ stamp does one. let it = c.read_counts stamp does one in (it.0, still marks mark (k.End call (r.Value stamp it.0)) it.1);
+    others = c.others;
     dead = λ value reply is ended. c.dead value reply is (end_there reply ended);
     dies = λ is. let it = c.dies is in (it.0, still marks mark (k.End call it.0) it.1, it.2);
     lives = λ is reply ended. c.lives is reply (end_there reply ended);
@@ -155,7 +158,7 @@ module _ (marks : List Mark) (call : Call) (stamp : Stamp) (kept : Call → Opti
       stays other state at = counted_stays marks mark kept last drawn h keeps other state (record { begins = no_begin other; ends = no_end other; counts = counts_not other }) (c.each other state at)
 
       same_but_latest : (other : Call) (s : CallState) → IsCounted (more marks mark) other s → IsCounted (more marks mark) other (drawing stamp s)
-      same_but_latest other s i = record { counted = i.counted; counts = i.counts; writes = i.writes; reads = i.reads; dead = i.dead; dies = i.dies; lives = i.lives; floors = i.floors; floor_is = i.floor_is }
+      same_but_latest other s i = record { counted = i.counted; counts = i.counts; writes = i.writes; reads = i.reads; read_counted = i.read_counted; read_counts = i.read_counts; others = i.others; dead = i.dead; dies = i.dies; lives = i.lives; floors = i.floors; floor_is = i.floor_is }
 
       each : (other : Call) (now : CallState) → new other ≡ Some now → IsCounted (more marks mark) other now
       each other now found = elim (changed call (drawing stamp) kept new is other now found) as (λ _. IsCounted (more marks mark) other now) [
@@ -238,6 +241,9 @@ counted_after_begin marks call key work old new last drawn top after next is sam
       counts = λ value stamp does one. absurd (no_stamp stamp one);
       writes = λ stamp open_ one. absurd (no_stamp stamp one);
       reads = λ stamp value does ended. absurd (not_ended (r.Value stamp value) ended);
+      read_counted = λ stamp value does ended. absurd (not_ended (r.Value stamp value) ended);
+      read_counts = λ stamp does one. absurd (no_stamp stamp one);
+      others = λ other. refl;
       dead = λ value reply does ended dead_. refl;
       dies = λ e. absurd (over e);
       lives = λ alive reply ended. absurd (not_ended reply ended);

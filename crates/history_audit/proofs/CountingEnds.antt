@@ -17,7 +17,7 @@ use Rattle.run_marks.specs.declared.mark.Work.{Work}
 use Rattle.run_marks.specs.declared.mark.Work.TheVariants as w
 use Rattle.run_marks.specs.declared.mark.Mark.{Mark}
 use Rattle.run_marks.specs.declared.mark.Mark.TheVariants as k
-use Rattle.run_marks.specs.History.{is_same_call, is_dead, EndsBefore, EndsWith, IsGiven}
+use Rattle.run_marks.specs.History.{is_same_call, is_dead, is_register_work, EndsBefore, EndsWith, IsGiven}
 use Rattle.register_order.specs.Form.{IsOpen, KeepsCall}
 use Rattle.register_order.specs.Clauses.{GivesWritten, WasDrawn}
 use Rattle.register_order.proofs.Stamps.{IsAtMost-same, IsAtMost-from_above, IsAtMost-trans}
@@ -82,6 +82,9 @@ module _ (marks : List Mark) (call : Call) (reply : Reply) (kept : Call → Opti
     pub counted : (value : List ℕ) (stamp : Stamp) → state.work ≡ w.Write value → CountsWith (more marks (k.End call reply)) call stamp → count ≡ Some stamp
     pub counts : (value : List ℕ) (stamp : Stamp) → state.work ≡ w.Write value → count ≡ Some stamp → CountsWith (more marks (k.End call reply)) call stamp × IsAbove stamp state.floor
     pub reads : (stamp : Stamp) (value : List ℕ) → state.work ≡ w.Read → reply ≡ r.Value stamp value → IsAtMost state.floor stamp
+    pub read_counted : (stamp : Stamp) (value : List ℕ) → state.work ≡ w.Read → reply ≡ r.Value stamp value → count ≡ Some stamp
+    pub read_counts : (stamp : Stamp) → state.work ≡ w.Read → count ≡ Some stamp → (value : List ℕ) × EndsWith (more marks (k.End call reply)) call (r.Value stamp value)
+    pub others : is_register_work state.work ≡ false → count ≡ None
     pub dead : (value : List ℕ) → state.work ≡ w.Write value → is_dead reply ≡ true → count ≡ None
     pub ending_is : ending ≡ cond (is_dead reply) Dead Ended
 
@@ -106,6 +109,9 @@ module _ (marks : List Mark) (call : Call) (reply : Reply) (kept : Call → Opti
     counts = own.counts;
     writes = λ stamp open_ one. absurd (never_open (is_dead reply) (sym own.ending_is ∙ open_));
     reads = λ stamp value is ended. own.reads stamp value is (sym (ended_is (r.Value stamp value) ended));
+    read_counted = λ stamp value is ended. own.read_counted stamp value is (sym (ended_is (r.Value stamp value) ended));
+    read_counts = own.read_counts;
+    others = own.others;
     dead = λ value one is ended dead_. own.dead value is (subst (λ (x : Reply). is_dead x ≡ true) (ended_is one ended) dead_);
     dies = λ e. (reply, Contains-push marks (k.End call reply), dead_by (is_dead reply) (sym own.ending_is ∙ e));
     lives = λ alive one ended. subst (λ (x : Reply). is_dead x ≡ false) (sym (ended_is one ended)) (alive_by (is_dead reply) (λ e. alive (own.ending_is ∙ e)));
@@ -178,6 +184,9 @@ module _ (marks : List Mark) (call : Call) (reply : Reply) (kept : Call → Opti
         counted = λ value stamp does with_. was.counted value stamp does (old_count value stamp does with_);
         counts = λ value stamp does one. let it = was.counts value stamp does one in (counts_still marks (k.End call reply) call stamp it.0, it.1);
         reads = λ stamp value does gives. absurd ((tells state at).0 stamp value gives does);
+        read_counted = λ stamp value does gives. absurd ((tells state at).0 stamp value gives does);
+        read_counts = λ stamp does one. let it = was.read_counts stamp does one in (it.0, still marks (k.End call reply) (k.End call (r.Value stamp it.0)) it.1);
+        others = was.others;
         dead = λ value does dead_. alive dead_;
         ending_is = ending_is;
       }) was

@@ -13,7 +13,7 @@ use Rattle.run_marks.specs.declared.mark.Work.{Work}
 use Rattle.run_marks.specs.declared.mark.Work.TheVariants as w
 use Rattle.run_marks.specs.declared.mark.Mark.{Mark}
 use Rattle.run_marks.specs.declared.mark.Mark.TheVariants as k
-use Rattle.run_marks.specs.History.{is_same_call, is_dead, EndsWith, IsGiven}
+use Rattle.run_marks.specs.History.{is_same_call, is_dead, is_register_work, EndsWith, IsGiven}
 use Rattle.register_order.specs.Form.{KeepsCall}
 use Rattle.register_order.specs.Clauses.{GivesWritten, WasDrawn}
 use Rattle.register_order.proofs.Tests.{call_is_itself, one_call}
@@ -85,6 +85,9 @@ module _ (marks : List Mark) (call : Call) (stamp : Stamp) (kept : Call → Opti
             let same = same_Some stamp one is in
             (inl (subst (λ (s : Stamp). EndsWith (more marks mark) call (r.Stored s)) same (Contains-push marks mark)), subst (λ (s : Stamp). IsAbove s state.floor) same (may_count_above marks call state given stamp was does may));
         reads = λ one given does gives. absurd (let e = sym work_is ∙ does in cc (e));
+        read_counted = λ one given does gives. absurd (let e = sym work_is ∙ does in cc (e));
+        read_counts = λ one does same. absurd (let e = sym work_is ∙ does in cc (e));
+        others = λ other. absurd (let e = ap is_register_work work_is in cc (e, other));
         dead = λ given does dead_. absurd (cc dead_);
         ending_is = refl;
       }) was
@@ -128,6 +131,10 @@ module _ (marks : List Mark) (call : Call) (key : KeyId) (floor stamp : Stamp) (
     counted = λ given one does with_. absurd (no_write given does);
     counts = λ given one does same. absurd (no_write given does);
     reads = λ one given does gives. subst (λ (s : Stamp). IsAtMost is.kept.state.floor s) (stamp_in one given gives) (subst (λ (f : Stamp). IsAtMost f stamp) (sym is.floor_is) low);
+    read_counted = λ one given does gives. ap (λ (s : Stamp). Some s) (stamp_in one given gives);
+    read_counts = λ one does same.
+        (value, subst (λ (s : Stamp). EndsWith (more marks (k.End call (r.Value stamp value))) call (r.Value s value)) (same_Some stamp one same) (Contains-push marks (k.End call (r.Value stamp value))));
+    others = λ other. absurd (let e = ap is_register_work is.kept.work_is in cc (e, other));
     dead = λ given does dead_. absurd (no_write given does);
     ending_is = refl;
   }) (c.each call is.kept.state is.kept.found)
@@ -150,6 +157,9 @@ module _ (marks : List Mark) (call : Call) (key : KeyId) (floor stamp : Stamp) (
         subst (λ (s : Stamp). CountsWith (more marks mark) (drawer_of stamp) s × IsAbove s writer.floor) e (inr (still marks mark (k.Ticket (drawer_of stamp) stamp) by.drawn, given_now), may_count_above marks (drawer_of stamp) writer given stamp was does may);
     writes = λ one open_ same. (value, by.work_is);
     reads = λ one given does ended. absurd (let e = sym by.work_is ∙ does in cc e);
+    read_counted = λ one given does ended. absurd (let e = sym by.work_is ∙ does in cc e);
+    read_counts = λ one does same. absurd (let e = sym by.work_is ∙ does in cc e);
+    others = λ other. absurd (let e = ap is_register_work by.work_is in cc (e, other));
     dead = λ given reply does ended dead_. absurd (let no_ = was.lives alive reply (end_there reply ended) in cc (no_, dead_));
     dies = λ e. absurd (alive e);
     lives = λ alive_ reply ended. was.lives alive reply (end_there reply ended);

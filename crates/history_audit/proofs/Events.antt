@@ -13,12 +13,21 @@ use Rattle.run_marks.specs.declared.mark.Mark.{Mark}
 use Rattle.run_marks.specs.declared.mark.Mark.TheVariants as k
 use Rattle.run_marks.specs.History.{call_of, EndsBefore, EndsWith, IsGiven}
 use Rattle.register_order.specs.Form.{last_seq, IsOpen, KeepsCall}
-use Rattle.register_order.specs.Clauses.{WasDrawn, GivesWritten}
+use Rattle.register_order.specs.Clauses.{EachKeeps, WasDrawn, GivesWritten}
 use Rattle.register_order.proofs.Pushed.{placed_in_push}
 use Rattle.history_audit.specs.declared.calls.CallState.{CallState}
 use Rattle.history_audit.specs.Told.{Tells}
 use Rattle.history_audit.specs.Counted.{Answered, CountsWith, IsFloor}
 use Rattle.history_audit.proofs.Telling.{more, still}
+
+-- one more line that keeps this
+pub each_push : (K : List Mark → Mark → Type 0) (before marks : List Mark) (mark : Mark) → EachKeeps K before marks → K (before ++ marks) mark → EachKeeps K before (marks ++ mark ∷ [])
+each_push K before [] mark each one = (subst (λ (ms : List Mark). K ms mark) (append_nil_ before) one, tt)
+  where
+    append_nil_ : (ms : List Mark) → ms ++ [] ≡ ms
+    append_nil_ [] = refl
+    append_nil_ (m ∷ ms) = ap (λ (x : List Mark). m ∷ x) (append_nil_ ms)
+each_push K before (m ∷ ms) mark each one = (each.0, each_push K (before ++ m ∷ []) ms mark each.1 (subst (λ (x : List Mark). K x mark) (sym (append_assoc before (m ∷ []) ms)) one))
 
 -- what the lines told, they tell with one more
 pub given_still : (marks : List Mark) (mark : Mark) (stamp : Stamp) → IsGiven marks stamp → IsGiven (more marks mark) stamp

@@ -16,4 +16,5 @@ mod CountingStamps
 mod Breaking
 mod ReadEnds
 mod Ends
+mod Effective
 mod Auditing

@@ -14,6 +14,7 @@ use Rattle.run_marks.specs.declared.mark.NoEpochCause.{NoEpochCause}
 use Rattle.run_marks.specs.declared.mark.Mark.{Mark}
 use Rattle.run_marks.specs.declared.mark.Mark.TheVariants as k
 use Rattle.run_marks.specs.History.{is_register_work}
+use Rattle.register_order.specs.Order.{effects_of}
 use Rattle.history_audit.specs.declared.line.LogLine.{LogLine}
 use Rattle.history_audit.specs.declared.line.LogLine.TheVariants as l
 use Rattle.history_audit.specs.declared.summary.Summary.{Summary}
@@ -200,9 +201,9 @@ few_keys keys (mark ∷ marks) = let on = few_keys (with_key keys mark) marks in
     one_key (k.Epoch epoch) = omega (arith)
     one_key (k.NoEpoch cause) = omega (arith)
 
-pub sums_up : (text : List ℕ) (marks : List Mark) (summary : Summary) (has : ℕ → Bool) → log_says text ≡ Ok marks → SumsAre marks summary has → SumsUp marks summary
-sums_up text marks summary has says s =
+pub sums_up : (text : List ℕ) (marks : List Mark) (summary : Summary) (has : ℕ → Bool) (number : ℕ) → log_says text ≡ Ok marks → SumsAre marks summary has → summary.counted ≡ min number 4294967295 → number ≤ length marks → length (effects_of marks) ≡ number → SumsUp marks summary
+sums_up text marks summary has number says s counted few_counted effects =
     let few = says_few 1 (lines_of text) marks says in
     let calls = count_by-le-length begins_register marks in
     let keys = few_keys [] marks in
-    record { calls = let c = s.calls in omega (arith, few, calls, c); keys = let c = s.keys in omega (arith, few, keys, c) }
+    record { calls = let c = s.calls in omega (arith, few, calls, c); counted = omega (arith, few, counted, few_counted, effects); keys = let c = s.keys in omega (arith, few, keys, c) }

@@ -10,7 +10,7 @@ use Rattle.wire_msg.specs.declared.outputs.Reply.TheVariants as r
 use Rattle.run_marks.specs.declared.mark.Work.TheVariants as w
 use Rattle.run_marks.specs.declared.mark.Mark.{Mark}
 use Rattle.run_marks.specs.declared.mark.Mark.TheVariants as k
-use Rattle.run_marks.specs.History.{history_of, is_dead, EndsBefore, EndsWith, IsGiven}
+use Rattle.run_marks.specs.History.{history_of, is_dead, is_register_work, EndsBefore, EndsWith, IsGiven}
 use Rattle.register_order.specs.Clauses.{EachKeeps, GivesWritten, IsInOrder, NoneIsDead}
 use Rattle.history_audit.specs.declared.calls.CallState.{CallState}
 use Rattle.history_audit.specs.declared.calls.Ending.TheVariants.{Open, Dead}
@@ -36,6 +36,9 @@ pub record IsCounted (marks : List Mark) (call : Call) (state : CallState) : Typ
   pub counts : (value : List ℕ) (stamp : Stamp) → state.work ≡ w.Write value → state.counted ≡ Some stamp → CountsWith marks call stamp × IsAbove stamp state.floor
   pub writes : (stamp : Stamp) → state.ending ≡ Open → state.counted ≡ Some stamp → (value : List ℕ) × (state.work ≡ w.Write value)
   pub reads : (stamp : Stamp) (value : List ℕ) → state.work ≡ w.Read → EndsWith marks call (r.Value stamp value) → IsAtMost state.floor stamp
+  pub read_counted : (stamp : Stamp) (value : List ℕ) → state.work ≡ w.Read → EndsWith marks call (r.Value stamp value) → state.counted ≡ Some stamp
+  pub read_counts : (stamp : Stamp) → state.work ≡ w.Read → state.counted ≡ Some stamp → (value : List ℕ) × EndsWith marks call (r.Value stamp value)
+  pub others : is_register_work state.work ≡ false → state.counted ≡ None
   pub dead : (value : List ℕ) (reply : Reply) → state.work ≡ w.Write value → EndsWith marks call reply → is_dead reply ≡ true → state.counted ≡ None
   pub dies : state.ending ≡ Dead → (reply : Reply) × EndsWith marks call reply × (is_dead reply ≡ true)
   pub lives : state.ending ≢ Dead → (reply : Reply) → EndsWith marks call reply → is_dead reply ≡ false

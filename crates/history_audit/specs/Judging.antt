@@ -1,5 +1,6 @@
 -- What the judge knows of the lines so far, and what it tells of the next one.
-use Rattle.std.specs.Prelude.{◌≡◌, ◌≢◌, ◌⊎◌, ℕ, ◌==◌, ◌&&◌, Bool, cond, List, [], ◌∷◌, ◌++◌, Option, Some, None, option_map, Result, Ok, Err, Contains}
+use Rattle.std.specs.Prelude.{◌≡◌, ◌≢◌, ◌⊎◌, ℕ, ◌==◌, ◌&&◌, Bool, cond, List, [], ◌∷◌, ◌++◌, Option, Some, None, min, option_map, Result, Ok, Err, Contains}
+use Rattle.std.specs.List.{count_by}
 use Rattle.std.specs.declared.alloc.AllocError.{AllocError}
 use Rattle.span_base.specs.declared.ids.Call.{Call}
 use Rattle.span_base.specs.declared.ids.KeyId.{KeyId}
@@ -12,7 +13,7 @@ use Rattle.run_marks.specs.declared.mark.Mark.{Mark}
 use Rattle.run_marks.specs.declared.mark.Mark.TheVariants as k
 use Rattle.run_marks.specs.History.{history_of, is_same_call}
 use Rattle.register_order.specs.Form.{KeepsCall, KeepsKind, KeepsStamp, KeepsForm}
-use Rattle.register_order.specs.Clauses.{KeepsValue, WasDrawn, GivesWritten, NoneIsDead, IsInOrder}
+use Rattle.register_order.specs.Clauses.{EachKeeps, KeepsValue, WasDrawn, GivesWritten, NoneIsDead, IsInOrder}
 use Rattle.history_audit.specs.declared.calls.CallState.{CallState}
 use Rattle.history_audit.specs.declared.calls.Ending.TheVariants.{Dead}
 use Rattle.history_audit.specs.declared.judge.Judge.{Judge}
@@ -23,13 +24,15 @@ use Rattle.history_audit.specs.Tables.{has_key, last_of, top_at, was_drawn}
 use Rattle.history_audit.specs.Told.{IsKept, Tells, KeepsFirst}
 use Rattle.history_audit.specs.Counted.{Counted}
 use Rattle.history_audit.specs.Judged.{CountsAs}
-use Rattle.history_audit.specs.Summed.{SumsAre}
+use Rattle.history_audit.specs.Summed.{counts_at, SumsAre}
 
 -- what is kept is what the lines tell
 pub record ToldBy (marks : List Mark) (judge : Judge) : Type 0 where
+  pub kept : EachKeeps KeepsFirst [] marks
   pub tells : Tells marks (look judge.calls) (last_of judge.lasts) (was_drawn judge.tickets)
   pub counted : Counted marks (look judge.calls) (top_at judge.tops)
   pub sums : SumsAre marks judge.summary (has_key judge.tops)
+  pub effects : judge.summary.counted ≡ min (count_by (counts_at (look judge.calls)) marks) 4294967295
 
 -- up to this line no read of a key gives a dead write's ticket; the calls of each key are in order
 abbrev pub KeepsDead : List Mark → Mark → Type 0

@@ -1,5 +1,5 @@
 -- What the lines of a log tell in numbers.
-use Rattle.std.specs.Prelude.{◌≡◌, ℕ, ◌==◌, min, Bool, true, false, not, ◌&&◌, if◌then◌else◌, List, [], ◌∷◌, length, Contains}
+use Rattle.std.specs.Prelude.{◌≡◌, ℕ, ◌==◌, min, Bool, true, false, not, ◌&&◌, if◌then◌else◌, List, [], ◌∷◌, length, Option, Some, None, is_some, Contains}
 use Rattle.std.specs.List.{count_by, fold, list_any}
 use Rattle.span_base.specs.declared.ids.Call.{Call}
 use Rattle.span_base.specs.declared.ids.KeyId.{KeyId}
@@ -7,6 +7,8 @@ use Rattle.run_marks.specs.declared.mark.Work.{Work}
 use Rattle.run_marks.specs.declared.mark.Mark.{Mark}
 use Rattle.run_marks.specs.declared.mark.Mark.TheVariants as k
 use Rattle.run_marks.specs.History.{is_register_work}
+use Rattle.register_order.specs.Order.{effects_of}
+use Rattle.history_audit.specs.declared.calls.CallState.{CallState}
 use Rattle.history_audit.specs.declared.summary.Summary.{Summary}
 
 -- the line begins a read or a write
@@ -33,9 +35,23 @@ with_key keys (k.NoEpoch cause) = keys
 abbrev pub keys_of : List Mark → List ℕ
 keys_of marks = fold with_key [] marks
 
+-- a call is counted where a stamp is kept with which it counts
+abbrev pub is_counted : Option CallState → Bool
+is_counted None = false
+is_counted (Some state) = is_some state.counted
+
+-- the line begins a call that is counted
+abbrev pub counts_at : (Call → Option CallState) → Mark → Bool
+counts_at kept (k.Begin call key work) = is_counted (kept call)
+counts_at kept (k.Ticket call stamp) = false
+counts_at kept (k.End call reply) = false
+counts_at kept (k.Epoch epoch) = false
+counts_at kept (k.NoEpoch cause) = false
+
 -- the summary is that of the lines
 pub record SumsUp (marks : List Mark) (summary : Summary) : Type 0 where
   pub calls : summary.calls ≡ count_by begins_register marks
+  pub counted : summary.counted ≡ length (effects_of marks)
   pub keys : summary.keys ≡ length (keys_of marks)
 
 -- the summary so far, as far as its numbers go, and the keys that are known

@@ -2,6 +2,7 @@
 
 ghost use Rattle.std.specs.Prelude.{◌≡◌, OnOk, OnErr, Some, cond, option_copied, option_map};
 ghost use Rattle.run_marks.specs.History.{is_same_call};
+ghost use Rattle.history_audit.specs.Summed.{is_counted};
 ghost use Rattle.history_audit.specs.Calls.{counting, drawing, ending_so, look};
 
 use indexmap::IndexMap;
@@ -67,7 +68,9 @@ impl CallTable {
     }
 
     /// Whether the call counts.
-    pub(crate) fn counts(&self, call: Call) -> bool {
+    pub(crate) fn counts(&self, call: Call) -> bool
+        ensures { result ≡ is_counted (look self.now call) }
+    {
         match self.find(call) {
             Some(state) => state.counted.is_some(),
             None => false,

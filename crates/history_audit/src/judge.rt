@@ -1,9 +1,11 @@
 //! The clauses, tried at each line on what the lines before it told.
 
-ghost use Rattle.std.specs.Prelude.{◌≡◌, ◌==◌, ◌↔◌, ◌+◌, ◌&&◌, IsTrue, ℕ, Bool, List, [], Ok, OnOk, Some, cond, min, not, option_copied, option_map, true};
+ghost use Rattle.std.specs.Prelude.{◌≡◌, ◌≢◌, ◌==◌, ◌↔◌, ◌+◌, ◌&&◌, IsTrue, ℕ, Bool, List, [], Ok, OnOk, Some, cond, min, not, option_copied, option_map, true};
 ghost use Rattle.run_marks.specs.History.{is_dead, is_register_work, is_same_call};
 ghost use Rattle.history_audit.specs.Calls.{counting, look};
 ghost use Rattle.history_audit.specs.Tables.{has_key, top_at};
+ghost use Rattle.history_audit.specs.Summed.{is_counted};
+ghost use Rattle.ticket_rules.specs.Stamp.{stamp_zero};
 ghost use Rattle.run_marks.specs.declared.mark.Work.TheVariants as w;
 ghost use Rattle.run_marks.specs.declared.mark.Mark.TheVariants as k;
 ghost use Rattle.history_audit.specs.Told.{IsKept, KeepsFirst, Tells};
@@ -247,6 +249,7 @@ fn note_begin(
 ) -> Result<(), AllocError>
     ensures tops { OnOk result ((other : ℕ) → top_at tops.new other ≡ top_at tops.old other) }
     ensures has { OnOk result ((other : ℕ) → has_key tops.new other ≡ cond (is_register_work work.now && not (has_key tops.old key.0)) (cond (key.0 == other) true (has_key tops.old other)) (has_key tops.old other)) }
+    ensures counted { OnOk result (summary.new.counted ≡ summary.old.counted) }
     ensures calls { OnOk result (summary.new.calls ≡ cond (is_register_work work.now) (min (summary.old.calls + 1) 4294967295) summary.old.calls) }
     ensures keys { OnOk result (summary.new.keys ≡ cond (is_register_work work.now && not (has_key tops.old key.0)) (min (summary.old.keys + 1) 4294967295) summary.old.keys) }
 {
@@ -263,7 +266,8 @@ fn note_begin(
 
 /// The call counts with this stamp.
 fn count(calls: &mut CallTable, counted: &mut u32, call: Call, stamp: Stamp)
-    ensures { (other : Call) → look calls.new other ≡ cond (is_same_call call other) (option_map (counting stamp) (look calls.old call)) (look calls.old other) }
+    ensures calls { (other : Call) → look calls.new other ≡ cond (is_same_call call other) (option_map (counting stamp) (look calls.old call)) (look calls.old other) }
+    ensures counted { counted.new ≡ cond (is_counted (look calls.old call)) counted.old (min (counted.old + 1) 4294967295) }
 {
     if !calls.counts(call) {
         *counted = one_more(*counted);
@@ -276,6 +280,8 @@ fn count(calls: &mut CallTable, counted: &mut u32, call: Call, stamp: Stamp)
 fn count_given(calls: &mut CallTable, counted: &mut u32, stamp: Stamp)
     ensures tells { (marks : List Mark) (last : ℕ → ℕ) (drawn : Stamp → Bool) → Tells marks (look calls.old) last drawn → Tells marks (look calls.new) last drawn }
     ensures given { CountsGiven stamp (look calls.old) (look calls.new) }
+    ensures none { stamp ≡ stamp_zero → counted.new ≡ counted.old }
+    ensures one { stamp ≢ stamp_zero → counted.new ≡ cond (is_counted (look calls.old (drawer_of stamp))) counted.old (min (counted.old + 1) 4294967295) }
     ensures kept { (other : Call) (key : KeyId) (work : Work) → IsKept (look calls.old other) key work → IsKept (look calls.new other) key work }
 {
     if is_zero(stamp) {
