@@ -1,14 +1,13 @@
 -- Ends that break one of the last two clauses.
-use Rattle.std.proofs.Common.{◌≡◌, ◌≢◌, ◌⊎◌, inl, inr, ℕ, ◌≤◌, Bool, true, false, cond, List, [], ◌∷◌, ◌++◌, Option, Some, None, refl, sym, ap, subst, ◌∙◌, arith}
+use Rattle.std.proofs.Common.{◌≡◌, inl, inr, ℕ, ◌≤◌, Bool, true, false, cond, List, ◌∷◌, ◌++◌, Option, Some, None, refl, sym, ap, subst, ◌∙◌, arith}
 use Rattle.std.specs.Prelude.{Contains}
 use Rattle.std.specs.List.{filter}
 use Rattle.std.proofs.lemmas.Grind.{common_steps}
-use Rattle.std.proofs.lemmas.Option.{same_Some}
 use Rattle.std.proofs.lemmas.List.Elements.{Contains-push, Contains-push_cases, filter-append}
 use Rattle.span_base.specs.declared.ids.Call.{Call}
 use Rattle.span_base.specs.declared.ids.KeyId.{KeyId}
 use Rattle.ticket_rules.specs.declared.stamp.Stamp.{Stamp}
-use Rattle.ticket_rules.specs.Stamp.{stamp_zero, IsAbove, IsAtMost}
+use Rattle.ticket_rules.specs.Stamp.{stamp_zero, IsAbove}
 use Rattle.wire_msg.specs.declared.outputs.Reply.{Reply}
 use Rattle.wire_msg.specs.declared.outputs.Reply.TheVariants as r
 use Rattle.run_marks.specs.declared.mark.Work.{Work}
@@ -18,7 +17,6 @@ use Rattle.run_marks.specs.declared.mark.Mark.TheVariants as k
 use Rattle.run_marks.specs.History.{history_of, is_dead, is_of, EndsBefore, EndsWith, IsGiven, Reads, Writes}
 use Rattle.run_marks.specs.Register.{TookEffect}
 use Rattle.register_order.specs.Form.{IsOpen, KeepsCall}
-use Rattle.register_order.specs.Clauses.{NoneIsDead}
 use Rattle.register_order.proofs.Filtered.{into_filter}
 use Rattle.register_order.proofs.OfKey.{in_history, in_log, is_kept, register_call_is_of}
 use Rattle.register_order.proofs.Tests.{one_call}
@@ -28,7 +26,7 @@ use Rattle.history_audit.specs.declared.calls.Ending.{Ending}
 use Rattle.history_audit.specs.declared.calls.Ending.TheVariants.{Open, Ended, Dead}
 use Rattle.history_audit.specs.Judged.{CountsAs}
 use Rattle.history_audit.specs.Told.{Tells}
-use Rattle.history_audit.specs.Counted.{Answered, CountsWith, Counted, IsCounted}
+use Rattle.history_audit.specs.Counted.{Answered, CountsWith, Counted}
 use Rattle.history_audit.specs.Judging.{drawer_of, EndsAsRead, GivesDead, GivesOutOfOrder, IsWriter, KeepsDead, KeepsOrder}
 use Rattle.history_audit.proofs.Telling.{more, still}
 use Rattle.history_audit.proofs.Tickets.{one_state}
@@ -248,7 +246,7 @@ module _ (marks : List Mark) (call : Call) (key : KeyId) (floor stamp : Stamp) (
   pub read_out_of_order : GivesOutOfOrder marks kept key floor stamp value → KeepsDead marks (k.End call (r.Value stamp value)) × (KeepsOrder marks (k.End call (r.Value stamp value)) → ⊥)
   read_out_of_order (inl it) = (
     still_none_dead marks call (r.Value stamp value) kept last drawn top h keeps c refl
-    (λ other one reply ticket here ended dead. drawn_not_zero marks call (r.Value stamp value) kept last drawn top h keeps c other one ticket (stamp_in one here ∙ it.0)),
+        (λ other one reply ticket here ended dead. drawn_not_zero marks call (r.Value stamp value) kept last drawn top h keeps c other one ticket (stamp_in one here ∙ it.0)),
     read_breaks_order (subst (λ (s : Stamp). IsAbove floor s) (sym it.0) it.2),
   )
   read_out_of_order (inr it) = (
@@ -281,7 +279,7 @@ pub stored_out_of_order : (marks : List Mark) (call : Call) (stamp : Stamp) (kep
 stored_out_of_order marks call stamp kept last drawn top h keeps c state value at does ticket may_not = (
   still_none_dead marks call (r.Stored stamp) kept last drawn top h keeps c refl (λ other one reply ticket_ here ended dead. no_read here.0 one here.2 here.3.is),
   write_breaks_order marks call (r.Stored stamp) kept last drawn top h keeps c call state value stamp at does (h.own call stamp ticket).2
-  (stored_in_history (more marks (k.End call (r.Stored stamp))) state.key call stamp value (begun_still marks call (r.Stored stamp) kept last drawn top h keeps c call state value at does) (Contains-push marks (k.End call (r.Stored stamp)))) may_not,
+      (stored_in_history (more marks (k.End call (r.Stored stamp))) state.key call stamp value (begun_still marks call (r.Stored stamp) kept last drawn top h keeps c call state value at does) (Contains-push marks (k.End call (r.Stored stamp)))) may_not,
 )
   where
     no_read : (d : Call) (s : Stamp) (v : List ℕ) → k.End call (r.Stored stamp) ≡ k.End d (r.Value s v) → ⊥

@@ -1,26 +1,21 @@
 -- What is kept of calls that count goes on to be what the lines tell, where no call ends.
-use Rattle.std.proofs.Common.{◌≡◌, ◌≢◌, ◌⊎◌, inl, inr, ℕ, ◌+◌, ◌≤◌, Bool, true, false, cond, ◌==◌, List, [], ◌∷◌, Option, Some, None, refl, sym, ap, subst, ◌∙◌, arith}
+use Rattle.std.proofs.Common.{◌≡◌, ◌⊎◌, inl, inr, ℕ, ◌+◌, Bool, true, false, cond, List, [], Option, Some, None, refl, sym, ap, subst, ◌∙◌, arith}
 use Rattle.std.specs.Prelude.{Contains}
-use Rattle.std.proofs.lemmas.Grind.{common_steps}
 use Rattle.std.proofs.lemmas.Option.{same_Some}
-use Rattle.std.proofs.lemmas.List.Elements.{Contains-push, Contains-push_cases}
+use Rattle.std.proofs.lemmas.List.Elements.{Contains-push_cases}
 use Rattle.span_base.specs.declared.ids.Call.{Call}
 use Rattle.span_base.specs.declared.ids.KeyId.{KeyId}
 use Rattle.ticket_rules.specs.declared.stamp.Stamp.{Stamp}
-use Rattle.ticket_rules.specs.Stamp.{stamp_zero, IsAbove, IsAtMost}
+use Rattle.ticket_rules.specs.Stamp.{stamp_zero, IsAtMost}
 use Rattle.ticket_rules.proofs.StampOrder.{IsAbove-irrefl}
 use Rattle.wire_msg.specs.declared.outputs.Reply.{Reply}
 use Rattle.wire_msg.specs.declared.outputs.Reply.TheVariants as r
 use Rattle.run_marks.specs.declared.mark.Work.{Work}
-use Rattle.run_marks.specs.declared.mark.Work.TheVariants as w
 use Rattle.run_marks.specs.declared.mark.Mark.{Mark}
 use Rattle.run_marks.specs.declared.mark.Mark.TheVariants as k
 use Rattle.run_marks.specs.History.{call_of, is_same_call, is_ok, EndsBefore, EndsWith, IsGiven}
 use Rattle.register_order.specs.Form.{IsNextTicket, KeepsCall}
-use Rattle.register_order.specs.Clauses.{GivesWritten, WasDrawn}
-use Rattle.register_order.proofs.Members.{parted}
-use Rattle.register_order.proofs.Pushed.{placed_in_push}
-use Rattle.register_order.proofs.Stamps.{IsAtMost-same}
+use Rattle.register_order.specs.Clauses.{GivesWritten}
 use Rattle.register_order.proofs.Tests.{same_call, call_is_itself, one_call}
 use Rattle.history_audit.specs.declared.calls.CallState.{CallState}
 use Rattle.history_audit.specs.declared.calls.Ending.TheVariants.{Open, Dead}

@@ -1,5 +1,5 @@
 -- A call ends: what is kept of calls that count goes on to be what the lines tell.
-use Rattle.std.proofs.Common.{◌≡◌, ◌≢◌, ◌⊎◌, inl, inr, ℕ, ◌≤◌, Bool, true, false, cond, ◌==◌, if◌then◌else◌, List, [], ◌∷◌, Option, Some, None, refl, sym, ap, subst, ◌∙◌, arith}
+use Rattle.std.proofs.Common.{◌≡◌, ◌⊎◌, inl, inr, ℕ, Bool, true, false, cond, ◌==◌, if◌then◌else◌, List, Option, Some, None, refl, sym, ap, subst, ◌∙◌}
 use Rattle.std.specs.Prelude.{Contains}
 use Rattle.std.specs.Ordering.{is_gt}
 use Rattle.std.specs.declared.cmp.Ordering.{Ordering}
@@ -17,24 +17,24 @@ use Rattle.run_marks.specs.declared.mark.Work.{Work}
 use Rattle.run_marks.specs.declared.mark.Work.TheVariants as w
 use Rattle.run_marks.specs.declared.mark.Mark.{Mark}
 use Rattle.run_marks.specs.declared.mark.Mark.TheVariants as k
-use Rattle.run_marks.specs.History.{is_same_call, is_dead, is_register_work, EndsBefore, EndsWith, IsGiven}
+use Rattle.run_marks.specs.History.{is_same_call, is_dead, is_register_work, EndsWith}
 use Rattle.register_order.specs.Form.{IsOpen, KeepsCall}
-use Rattle.register_order.specs.Clauses.{GivesWritten, WasDrawn}
+use Rattle.register_order.specs.Clauses.{GivesWritten}
 use Rattle.register_order.proofs.Stamps.{IsAtMost-same, IsAtMost-from_above, IsAtMost-trans}
-use Rattle.register_order.proofs.Tests.{call_is_itself, one_call}
+use Rattle.register_order.proofs.Tests.{call_is_itself}
 use Rattle.history_audit.specs.declared.calls.CallState.{CallState}
 use Rattle.history_audit.specs.declared.calls.Ending.{Ending}
 use Rattle.history_audit.specs.declared.calls.Ending.TheVariants.{Open, Ended, Dead}
-use Rattle.history_audit.specs.Calls.{counting, ending_so}
+use Rattle.history_audit.specs.Calls.{ending_so}
 use Rattle.history_audit.specs.Judged.{CountsAs}
 use Rattle.history_audit.specs.Told.{Tells}
 use Rattle.history_audit.specs.Counted.{Answered, CountsWith, Counted, IsCounted}
-use Rattle.history_audit.specs.Judging.{drawer_of, IsWriter, MayGive, TellsNoStamp, CountsGiven}
+use Rattle.history_audit.specs.Judging.{TellsNoStamp}
 use Rattle.history_audit.proofs.Telling.{more, still}
 use Rattle.history_audit.proofs.Changing.{Changes, changed}
 use Rattle.history_audit.proofs.Tickets.{one_state}
 use Rattle.history_audit.proofs.Events.{answered_cases, answered_still, counts_cases, counts_still, floor_still, read_cases, written_still, AnswersHere, CountsHere, ReadsHere, StoresHere}
-use Rattle.history_audit.proofs.Counting.{counted_stays, counted_with_none, floors_on, LeavesAlone}
+use Rattle.history_audit.proofs.Counting.{counted_stays, counted_with_none, floors_on}
 use Rattle.history_audit.proofs.FromCounted.{same_key}
 
 -- the greater of two stamps is one of them, and neither is above it

@@ -1,24 +1,24 @@
 -- A read or a write is answered: what is kept of calls that count goes on to be what the lines tell.
-use Rattle.std.proofs.Common.{◌≡◌, ◌≢◌, ◌⊎◌, inl, inr, ℕ, ◌≤◌, Bool, true, false, cond, ◌==◌, List, [], ◌∷◌, Option, Some, None, refl, sym, ap, subst, ◌∙◌, arith}
+use Rattle.std.proofs.Common.{◌≡◌, ◌≢◌, inl, inr, ℕ, Bool, true, false, cond, ◌==◌, List, Option, Some, refl, sym, ap, subst, ◌∙◌, arith}
 use Rattle.std.specs.Prelude.{Contains}
 use Rattle.std.proofs.lemmas.Option.{same_Some}
 use Rattle.std.proofs.lemmas.List.Elements.{Contains-push, Contains-push_cases}
 use Rattle.span_base.specs.declared.ids.Call.{Call}
 use Rattle.span_base.specs.declared.ids.KeyId.{KeyId}
 use Rattle.ticket_rules.specs.declared.stamp.Stamp.{Stamp}
-use Rattle.ticket_rules.specs.Stamp.{stamp_zero, greater, IsAbove, IsAtMost}
+use Rattle.ticket_rules.specs.Stamp.{greater, IsAbove, IsAtMost}
 use Rattle.wire_msg.specs.declared.outputs.Reply.{Reply}
 use Rattle.wire_msg.specs.declared.outputs.Reply.TheVariants as r
 use Rattle.run_marks.specs.declared.mark.Work.{Work}
 use Rattle.run_marks.specs.declared.mark.Work.TheVariants as w
 use Rattle.run_marks.specs.declared.mark.Mark.{Mark}
 use Rattle.run_marks.specs.declared.mark.Mark.TheVariants as k
-use Rattle.run_marks.specs.History.{is_same_call, is_dead, is_register_work, EndsWith, IsGiven}
+use Rattle.run_marks.specs.History.{is_same_call, is_register_work, EndsWith, IsGiven}
 use Rattle.register_order.specs.Form.{KeepsCall}
 use Rattle.register_order.specs.Clauses.{GivesWritten, WasDrawn}
 use Rattle.register_order.proofs.Tests.{call_is_itself, one_call}
 use Rattle.history_audit.specs.declared.calls.CallState.{CallState}
-use Rattle.history_audit.specs.declared.calls.Ending.TheVariants.{Open, Ended, Dead}
+use Rattle.history_audit.specs.declared.calls.Ending.TheVariants.{Ended, Dead}
 use Rattle.history_audit.specs.Calls.{counting, ending_so}
 use Rattle.history_audit.specs.Judged.{CountsAs}
 use Rattle.history_audit.specs.Told.{Tells}
@@ -28,7 +28,7 @@ use Rattle.history_audit.proofs.Telling.{more, still}
 use Rattle.history_audit.proofs.Changing.{Changes, changed}
 use Rattle.history_audit.proofs.Events.{counts_cases, floor_still, AnswersHere, ReadsHere, StoresHere}
 use Rattle.history_audit.proofs.Counting.{floors_on}
-use Rattle.history_audit.proofs.CountingEnds.{apart_call, counted_with_one, end_in, may_count_above, may_count_one, not_ended, other_stays, own_ends, work_here}
+use Rattle.history_audit.proofs.CountingEnds.{apart_call, counted_with_one, end_in, may_count_above, may_count_one, other_stays, own_ends, work_here}
 
 -- a write of the key is answered with this stamp
 module _ (marks : List Mark) (call : Call) (stamp : Stamp) (kept : Call → Option CallState) (last : ℕ → ℕ) (drawn : Stamp → Bool) (h : Tells marks kept last drawn) (keeps : KeepsCall marks (k.End call (r.Stored stamp))) where

@@ -1,9 +1,8 @@
 -- How many calls take effect: the calls that are kept as counted are those with an effect.
-use Rattle.std.proofs.Common.{◌≡◌, ◌≢◌, ◌⊎◌, inl, inr, ℕ, ◌+◌, Bool, true, false, ◌&&◌, cond, List, [], ◌∷◌, ◌++◌, length, length-append, Option, Some, None, refl, sym, ap, subst, ◌∙◌, arith}
+use Rattle.std.proofs.Common.{◌≡◌, ◌≢◌, inl, inr, ℕ, ◌+◌, Bool, true, false, ◌&&◌, cond, List, [], ◌∷◌, length, length-append, Option, Some, None, refl, sym, ap, subst, ◌∙◌, arith}
 use Rattle.std.specs.Prelude.{Contains, is_some, min, option_map, take}
 use Rattle.std.specs.List.{count_by, flat_map}
 use Rattle.std.proofs.lemmas.Bool.{and_from, false_from_ne_true}
-use Rattle.std.proofs.lemmas.Option.{same_Some}
 use Rattle.std.proofs.lemmas.List.Sums.{sum_by-append, sum_by-cons, sum_by_push}
 use Rattle.span_base.specs.declared.ids.Call.{Call}
 use Rattle.span_base.specs.declared.ids.KeyId.{KeyId}
@@ -14,7 +13,7 @@ use Rattle.run_marks.specs.declared.mark.Work.{Work}
 use Rattle.run_marks.specs.declared.mark.Work.TheVariants as w
 use Rattle.run_marks.specs.declared.mark.Mark.{Mark}
 use Rattle.run_marks.specs.declared.mark.Mark.TheVariants as k
-use Rattle.run_marks.specs.History.{is_register_work, is_same_call, EndsWith, IsGiven}
+use Rattle.run_marks.specs.History.{is_register_work, is_same_call}
 use Rattle.run_marks.specs.Register.{Effect}
 use Rattle.register_order.specs.Agree.{BeginsOnce}
 use Rattle.register_order.specs.Form.{KeepsCall}

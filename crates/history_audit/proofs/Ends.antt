@@ -6,7 +6,6 @@ use Rattle.ticket_rules.specs.declared.stamp.Stamp.{Stamp}
 use Rattle.wire_msg.specs.declared.outputs.Reply.{Reply}
 use Rattle.wire_msg.specs.declared.outputs.Reply.TheVariants as r
 use Rattle.run_marks.specs.declared.mark.Work.{Work}
-use Rattle.run_marks.specs.declared.mark.Work.TheVariants as w
 use Rattle.register_order.specs.Form.{answers_of}
 use Rattle.register_order.specs.Order.{is_reading}
 use Rattle.history_audit.specs.declared.calls.CallState.{CallState}

@@ -1,13 +1,12 @@
 -- A read's end keeps or breaks the clauses.
-use Rattle.std.proofs.Common.{◌≡◌, inl, inr, ℕ, Bool, List, Option, Some, sym, subst}
+use Rattle.std.proofs.Common.{inl, inr, ℕ, Bool, List, Option, Some, sym, subst}
 use Rattle.std.specs.Prelude.{Contains}
 use Rattle.span_base.specs.declared.ids.Call.{Call}
 use Rattle.span_base.specs.declared.ids.KeyId.{KeyId}
 use Rattle.ticket_rules.specs.declared.stamp.Stamp.{Stamp}
-use Rattle.ticket_rules.specs.Stamp.{stamp_zero, IsAtMost}
+use Rattle.ticket_rules.specs.Stamp.{IsAtMost}
 use Rattle.wire_msg.specs.declared.outputs.Reply.TheVariants as r
 use Rattle.run_marks.specs.declared.mark.Work.{Work}
-use Rattle.run_marks.specs.declared.mark.Work.TheVariants as w
 use Rattle.run_marks.specs.declared.mark.Mark.{Mark}
 use Rattle.run_marks.specs.declared.mark.Mark.TheVariants as k
 use Rattle.register_order.specs.Form.{KeepsForm}
@@ -15,9 +14,9 @@ use Rattle.register_order.specs.Clauses.{GivesWritten}
 use Rattle.history_audit.specs.declared.calls.CallState.{CallState}
 use Rattle.history_audit.specs.declared.fault.Clause.{Clause}
 use Rattle.history_audit.specs.declared.fault.Clause.TheVariants as clause
-use Rattle.history_audit.specs.Told.{IsKept, KeepsFirst, Tells}
+use Rattle.history_audit.specs.Told.{KeepsFirst, Tells}
 use Rattle.history_audit.specs.Counted.{Counted}
-use Rattle.history_audit.specs.Judging.{BreaksFirst, EndsAsRead, GivesDead, GivesOutOfOrder, MayGive, ReadBreaks}
+use Rattle.history_audit.specs.Judging.{BreaksFirst, EndsAsRead, GivesOutOfOrder, MayGive, ReadBreaks}
 use Rattle.history_audit.proofs.Ending.{read_keeps}
 use Rattle.history_audit.proofs.Writers.{writer_wrote}
 use Rattle.history_audit.proofs.Breaking.{read_breaks_dead, read_out_of_order}

@@ -1,5 +1,5 @@
 -- What the judge knows of the lines so far, and what it tells of the next one.
-use Rattle.std.specs.Prelude.{◌≡◌, ◌≢◌, ◌⊎◌, ℕ, ◌==◌, ◌&&◌, Bool, cond, List, [], ◌∷◌, ◌++◌, Option, Some, None, min, option_map, Result, Ok, Err, Contains}
+use Rattle.std.specs.Prelude.{◌≡◌, ◌≢◌, ◌⊎◌, ℕ, cond, List, [], ◌∷◌, ◌++◌, Option, Some, None, min, option_map, Result, Ok, Err, Contains}
 use Rattle.std.specs.List.{count_by}
 use Rattle.std.specs.declared.alloc.AllocError.{AllocError}
 use Rattle.span_base.specs.declared.ids.Call.{Call}

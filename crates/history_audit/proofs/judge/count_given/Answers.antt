@@ -1,4 +1,4 @@
-use Rattle.std.proofs.Common.{◌≡◌, ◌+◌, cond, refl, sym, subst}
+use Rattle.std.proofs.Common.{◌≡◌, ◌+◌, cond, refl, subst}
 use Rattle.std.specs.Prelude.{min}
 use Rattle.history_audit.specs.Summed.{is_counted}
 use Rattle.span_base.specs.declared.ids.Call.{Call}

@@ -1,5 +1,5 @@
 use Rattle.run_marks.specs.declared.mark.Mark.TheVariants as k
-use Rattle.std.proofs.Common.{[], ◌≡◌, ◌+◌, ℕ, Some, cond, refl, sym, ap, subst, ◌∙◌}
+use Rattle.std.proofs.Common.{[], ◌≡◌, ◌+◌, Some, cond, refl, sym, ap, subst, ◌∙◌}
 use Rattle.span_base.specs.declared.ids.Call.{Call}
 use Rattle.ticket_rules.specs.declared.stamp.Stamp.{Stamp}
 use Rattle.run_marks.specs.History.{is_same_call}

@@ -1,8 +1,5 @@
-use Rattle.std.proofs.Common.{◌≡◌, refl, sym, ap, subst, ◌∙◌}
-use Rattle.std.proofs.lemmas.Option.{same_Some}
+use Rattle.std.proofs.Common.{refl, sym, subst}
 use Rattle.wire_msg.specs.declared.outputs.Reply.{Reply}
-use Rattle.wire_msg.specs.declared.outputs.Reply.TheVariants as r
-use Rattle.run_marks.specs.declared.mark.Work.{Work}
 use Rattle.run_marks.specs.declared.mark.Work.TheVariants as w
 use Rattle.run_marks.specs.declared.mark.Mark.TheVariants as k
 use Rattle.register_order.specs.Form.{KeepsForm}
@@ -10,7 +7,7 @@ use Rattle.register_order.specs.Clauses.{KeepsValue}
 use Rattle.history_audit.specs.Told.{IsKept}
 use Rattle.history_audit.specs.Judging.{Judges}
 use Rattle.history_audit.specs.Calls.{look}
-use Rattle.history_audit.specs.Tables.{last_of, top_at, was_drawn}
+use Rattle.history_audit.specs.Tables.{last_of, was_drawn}
 use Rattle.history_audit.proofs.Ending.{end_breaks, end_keeps, reading_is_read, value_of_no_read, value_of_other, writing_writes}
 use Rattle.history_audit.proofs.Ends.{tells_none_of_value, tells_none_of_stored, tells_none_of_other}
 use Rattle.history_audit.proofs.Tickets.{unknown_call}

@@ -1,5 +1,5 @@
 use Rattle.std.proofs.Common.{◌≡◌, refl, sym, subst}
-use Rattle.std.specs.Prelude.{Option, Some, None}
+use Rattle.std.specs.Prelude.{Some, None}
 use Rattle.span_base.specs.declared.ids.Call.{Call}
 use Rattle.history_audit.specs.Calls.{look}
 use Rattle.history_audit.specs.Tables.{last_of, was_drawn}
