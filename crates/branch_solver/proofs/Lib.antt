@@ -5,3 +5,4 @@ pub mod Sizes
 pub mod Ends
 pub mod Stepping
 pub mod Improving
+pub mod Stacking

@@ -1,5 +1,5 @@
 -- What a search keeps of the lines that it gave.
-use Rattle.std.specs.Prelude.{◌≡◌, ℕ, ◌≤◌, Bool, if◌then◌else◌, List, length, Option, Some, None}
+use Rattle.std.specs.Prelude.{◌≡◌, ℕ, ◌≤◌, ◌^◌, Bool, if◌then◌else◌, List, length, Option, Some, None}
 use Rattle.zero_one.specs.Contents.{Contents}
 use Rattle.bound_cert.specs.declared.leaves.Line.{Line}
 use Rattle.cert_checker.specs.declared.turns.Turn.{Turn}
@@ -37,3 +37,8 @@ pub record IsEquipped (variables : ℕ) (desk : Desk) : Type 0 where
   pub ascent : desk.ascent.variables ≡ variables
   pub incumbent : desk.incumbent.variables ≡ variables
   pub found : length desk.found ≡ variables
+
+-- each line puts at most one frame, and there are few lines, so no slot of a frame comes to its last generation
+pub record HasFewPuts (puts given budget : ℕ) : Type 0 where
+  pub few : puts ≤ given
+  pub limit : budget ≤ 10 ^ 9

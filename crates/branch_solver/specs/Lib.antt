@@ -1,6 +1,7 @@
 pub mod Best
 pub mod Given
 pub mod Kept
+pub mod Frames
 pub mod Buffers
 pub mod Nodes
 pub mod Steps

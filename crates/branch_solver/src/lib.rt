@@ -4,6 +4,7 @@
 //! After `Search::make` and `LineBuf::make` no call takes memory.
 #![tactic(auto)]
 
+mod frames;
 mod incumbent;
 mod laws;
 mod line_buf;

@@ -5,11 +5,11 @@ ghost use Rattle.branch_solver.specs.Best.{Best};
 ghost use Rattle.branch_solver.specs.Kept.{StandsFor};
 ghost use Rattle.branch_solver.specs.Steps.{Steps, Advances, ended};
 
+use crate::frames::Frames;
 use crate::incumbent::Incumbent;
 use crate::line_buf::LineBuf;
 use crate::node::{Desk, explore, keep_for, restore_for, write_node};
 use crate::progress::Progress;
-use cert_checker::Path;
 use dual_ascent::Ascent;
 use std::alloc::{AllocError, Global};
 use std::marker::Model;
@@ -19,7 +19,7 @@ use zero_one::{Bits, Program};
 #[derive(Drop)]
 pub struct Search {
     // The path to the node whose line comes next, while the tree isn't whole.
-    path: Path,
+    path: Frames,
     whole: bool,
     // How many lines were given, and how many may be.
     given: u64,
@@ -32,7 +32,7 @@ impl Model for Search {
 
     ghost Value = { Kept };
 
-    ghost use Rattle.branch_solver.specs.Kept.{IsEquipped};
+    ghost use Rattle.branch_solver.specs.Kept.{IsEquipped, HasFewPuts};
 
     ghost view = { λ s. record {
       variables = s.path.variables;
@@ -44,7 +44,7 @@ impl Model for Search {
       best = s.desk.incumbent.best;
     } };
 
-    ghost invariant = { λ s. IsEquipped s.path.variables s.desk };
+    ghost invariant = { λ s. IsEquipped s.path.variables s.desk × HasFewPuts s.path.puts s.given s.budget };
 }
 
 impl Search {
@@ -62,7 +62,7 @@ impl Search {
             kept_for: None,
         };
         Ok(Search {
-            path: Path::make(alloc, variables)?,
+            path: Frames::make(alloc, variables)?,
             whole: false,
             given: 0,
             budget,
