@@ -1,4 +1,5 @@
 pub mod Lines
+pub mod NextTables
 pub mod LeastFault
 pub mod Quorums
 pub mod Keeping

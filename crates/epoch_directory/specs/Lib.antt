@@ -1,4 +1,5 @@
 pub mod State
 pub mod Tables
+pub mod NextLines
 pub mod Step
 pub mod Laws

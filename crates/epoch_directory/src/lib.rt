@@ -5,6 +5,7 @@
 mod directory;
 pub mod laws;
 mod lookup;
+mod next_table;
 mod publish;
 mod switch;
 mod table;
