@@ -10,3 +10,4 @@ pub mod Proxies
 pub mod Taking
 pub mod Stores
 pub mod Ends
+pub mod InMemory

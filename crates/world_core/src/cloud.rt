@@ -1,4 +1,5 @@
-ghost use Rattle.std.specs.Prelude.{◌≡◌, ◌<◌, length};
+ghost use Rattle.std.specs.Prelude.{◌≡◌, ◌<◌, ◌↔◌, IsTrue, length, slice_get};
+ghost use Rattle.std.specs.Option.{option_copied};
 ghost use Rattle.world_core.specs.State.{replica_at};
 ghost use Rattle.world_core.specs.Run.{MayHappen};
 ghost use Rattle.world_core.specs.Ends.{StepEnds};
@@ -51,12 +52,30 @@ impl<W: Wire, T: Taker> Cloud<W, T> {
         self.events
     }
 
+    /// The proxy of this number, where there is one.
+    pub fn proxy(&self, proxy: u32) -> Option<&Proxy>
+        ensures { option_copied result ≡ slice_get self.now.store.proxies proxy }
+    {
+        self.proxies.get(proxy as usize)
+    }
+
     /// Whether a replica takes nothing more.
     pub fn is_stopped(&self, replica: u8) -> bool
         requires { replica < length self.now.store.replicas }
         ensures { result ≡ (replica_at self.now.store replica).stopped }
     {
         self.replicas[usize::from(replica)].stopped
+    }
+
+    /// Whether the event may be asked of `step`: a table that is to be published has to be one that
+    /// the directory can judge.
+    pub fn may_happen(&self, event: &Event) -> bool
+        ensures { IsTrue result ↔ MayHappen self.now.store event.now }
+    {
+        match event {
+            Event::Publish { table } => self.directory.is_next_table(table.as_slice()),
+            _ => true,
+        }
     }
 
     /// One step: what the event does, with its marks, or why it isn't taken. Whatever isn't taken

@@ -1,6 +1,6 @@
 //! How a client gives a call up.
 
-ghost use Rattle.std.specs.Prelude.{◌≡◌, ◌<◌, length, slice_index_or};
+ghost use Rattle.std.specs.Prelude.{◌≡◌, ◌<◌, length, slice_index_or, is_some};
 ghost use Rattle.slot_pool.specs.Slots.{new_slot};
 ghost use Rattle.world_core.specs.Step.{holds_call, handle_of_call};
 ghost use Rattle.world_core.specs.Proxies.{gave_up, GivesUp};
@@ -33,6 +33,13 @@ impl Proxy {
             reply: Reply::GivenUp,
         };
         Some(Marks::of(end, None))
+    }
+
+    /// Whether the call of this number is live.
+    pub fn is_live(&self, seq: u32) -> bool
+        ensures { result ≡ is_some (handle_of_call self.now.calls seq) }
+    {
+        handle_of_call(&self.calls, seq).is_some()
     }
 }
 

@@ -12,6 +12,7 @@ mod effects;
 mod event;
 mod giving_up;
 mod handing;
+mod in_memory;
 mod laws;
 mod lesson;
 mod live;

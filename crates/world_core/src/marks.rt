@@ -1,4 +1,4 @@
-ghost use Rattle.std.specs.Prelude.{◌≡◌, [], ◌∷◌, ◌++◌, length, slice_get};
+ghost use Rattle.std.specs.Prelude.{◌≡◌, ◌≤◌, [], ◌∷◌, ◌++◌, length, slice_get};
 ghost use Rattle.std.specs.Option.{option_copied, option_to_list};
 ghost use Rattle.world_core.specs.Step.{ticket_marks, end_marks};
 
@@ -82,7 +82,8 @@ impl Marks {
 
     /// How many marks there are.
     pub fn len(&self) -> usize
-        ensures { result ≡ length self.now }
+        ensures number { result ≡ length self.now }
+        ensures few { result ≤ 2 }
     {
         match (&self.first, &self.second) {
             (None, _) => 0,

@@ -62,6 +62,13 @@ impl Proxy {
         self.stopped
     }
 
+    /// How many calls it began: the next one has the number after it.
+    pub fn begun(&self) -> u32
+        ensures { result ≡ self.now.begun }
+    {
+        self.begun
+    }
+
     /// It takes and begins nothing from now on.
     pub fn stop(&mut self)
         ensures { self.new ≡ record self.old { stopped = true } }
