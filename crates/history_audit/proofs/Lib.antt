@@ -18,3 +18,4 @@ mod ReadEnds
 mod Ends
 mod Effective
 mod Auditing
+mod ReadBack

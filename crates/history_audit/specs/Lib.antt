@@ -10,3 +10,4 @@ pub mod Counted
 pub mod Summed
 pub mod Judging
 pub mod Audited
+pub mod Ranges

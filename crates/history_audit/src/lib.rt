@@ -15,7 +15,7 @@ mod whole_log;
 mod words;
 
 pub use fault::{AuditFault, Clause};
-pub use laws::{counted_calls_keep_clauses, worked_texts_are_read};
+pub use laws::{counted_calls_keep_clauses, marks_are_read_back, worked_texts_are_read};
 pub use summary::Summary;
 pub use whole_log::audit;
 
