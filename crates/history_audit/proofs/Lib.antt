@@ -19,3 +19,4 @@ mod Ends
 mod Effective
 mod Auditing
 mod ReadBack
+mod LogBack

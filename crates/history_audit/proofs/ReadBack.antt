@@ -1,12 +1,12 @@
 -- The line that is written of a mark says that mark.
-use Rattle.std.proofs.Common.{◌≡◌, ℕ, suc, ◌+◌, ◌*◌, ◌/◌, ◌%◌, ◌^◌, ◌<◌, ◌≤◌, ◌==◌, Bool, true, false, ◌&&◌, cond, List, [], ◌∷◌, ◌++◌, length, Option, Some, None, Ok, append_assoc, refl, sym, ap, subst, ◌∙◌, arith}
-use Rattle.std.specs.Prelude.{codes, nat_eq, nat_le, option_map, slice_index, if◌then◌else◌}
+use Rattle.std.proofs.Common.{◌≡◌, ℕ, suc, ◌+◌, ◌/◌, ◌%◌, ◌^◌, ◌<◌, ◌≤◌, ◌==◌, Bool, true, false, ◌&&◌, cond, List, [], ◌∷◌, ◌++◌, length, Some, None, append_assoc, refl, sym, ap, subst, ◌∙◌, arith}
+use Rattle.std.specs.Prelude.{codes, slice_index}
 use Rattle.std.specs.List.{list_all}
 use Rattle.std.specs.Fmt.{decimal}
 use Rattle.std.proofs.lemmas.Bool.{and_from, eqb-true, eq-eqb, false_from_ne_true, le-leb}
 use Rattle.std.proofs.lemmas.Fmt.{decimal_by_steps_wide}
 use Rattle.std.proofs.lemmas.List.Sums.{AllPass-from_list_all}
-use Rattle.hex.specs.Hex.{decode_of, encode_lower, encode_with, lower_digits, IsBytes}
+use Rattle.hex.specs.Hex.{encode_lower, encode_with, lower_digits, IsBytes}
 use Rattle.hex.proofs.HexLemmas.{decode_of-encode_lower, length-encode_with}
 use Rattle.span_base.specs.declared.ids.Call.{Call}
 use Rattle.span_base.specs.declared.ids.KeyId.{KeyId}
@@ -19,21 +19,18 @@ use Rattle.run_marks.specs.declared.mark.Work.{Work}
 use Rattle.run_marks.specs.declared.mark.Work.TheVariants as w
 use Rattle.run_marks.specs.declared.mark.NoEpochCause.{NoEpochCause}
 use Rattle.run_marks.specs.declared.mark.NoEpochCause.TheVariants.{MissingSet, NotQuorum}
-use Rattle.run_marks.specs.declared.mark.Mark.{Mark}
 use Rattle.run_marks.specs.declared.mark.Mark.TheVariants as k
 use Rattle.run_marks.specs.Text.{call_text, cause_text, mark_text, reply_text, stamp_text, value_text, work_text}
-use Rattle.history_audit.specs.declared.line.LogLine.{LogLine}
-use Rattle.history_audit.specs.declared.line.LogLine.TheVariants as l
 use Rattle.history_audit.specs.Words.{call_says, count_says, cut, is_lower_digit, is_word, number_up_to, proxy_says, stamp_says, value_says}
 use Rattle.history_audit.specs.Lines.{answer_says, begin_says, cause_by, cause_says, end_says, key_says, keyed_says, line_by, line_says, mark_by, reply_by, reply_says, set_says, ticket_says, word_reply, work_by, work_says}
-use Rattle.history_audit.specs.Ranges.{FitsCall, FitsCause, FitsMark, FitsReply, FitsStamp, FitsValue, FitsWork, MarksAreReadBack}
+use Rattle.history_audit.specs.Ranges.{FitsCall, FitsCause, FitsReply, FitsStamp, FitsValue, FitsWork, MarksAreReadBack}
 
 -- the text has no such byte
-abbrev IsFree : ℕ → List ℕ → Type 0
+abbrev pub IsFree : ℕ → List ℕ → Type 0
 IsFree byte [] = Unit {0}
 IsFree byte (c ∷ cs) = ((c == byte) ≡ false) × IsFree byte cs
 
-free_append : (byte : ℕ) (xs ys : List ℕ) → IsFree byte xs → IsFree byte ys → IsFree byte (xs ++ ys)
+pub free_append : (byte : ℕ) (xs ys : List ℕ) → IsFree byte xs → IsFree byte ys → IsFree byte (xs ++ ys)
 free_append byte [] ys h i = i
 free_append byte (x ∷ xs) ys h i = (h.0, free_append byte xs ys h.1 i)
 
@@ -56,7 +53,7 @@ cut_word byte front rest free = ap (cut byte) (append_assoc front (byte ∷ []) 
 apart_digit : (byte n : ℕ) → byte < 48 → ((48 + n) == byte) ≡ false
 apart_digit byte n low = false_from_ne_true ((48 + n) == byte) (λ h. let e = eqb-true (48 + n) byte h in omega (arith, e, low))
 
-free_number : (byte : ℕ) → byte < 48 → (n : ℕ) → n < 10 ^ 64 → IsFree byte (decimal n)
+pub free_number : (byte : ℕ) → byte < 48 → (n : ℕ) → n < 10 ^ 64 → IsFree byte (decimal n)
 free_number byte low =
     decimal_by_steps_wide (λ n ds. IsFree byte ds) (λ n small. (apart_digit byte n low, tt)) (λ n ds high free. free_append byte ds ((48 + n % 10) ∷ []) free (apart_digit byte (n % 10) low, tt))
 
@@ -64,7 +61,7 @@ number_read : (most n : ℕ) → most < 10 ^ 38 → n ≤ most → number_up_to 
 unfolding number_up_to
 number_read most n wide low = let it = decimal_reads n (omega (arith, wide, low)) in rw it.0 (rw it.1 (rw (le-leb n most low) refl))
 
-count_read : (n : ℕ) → n ≤ 4294967295 → count_says (decimal n) ≡ Some n
+pub count_read : (n : ℕ) → n ≤ 4294967295 → count_says (decimal n) ≡ Some n
 unfolding count_says
 count_read n low = number_read 4294967295 n (omega arith) low
 
@@ -87,14 +84,14 @@ call_read call fits =
     rw e (rw (proxy_read call.proxy fits.proxy) (rw (count_read call.seq fits.seq) refl))
 
 -- the call that a stamp ends with
-abbrev ends_with : Stamp → Call
+abbrev pub ends_with : Stamp → Call
 ends_with stamp = record { proxy = stamp.proxy; seq = stamp.seq }
 
 regroup : (a b c d : List ℕ) → ((a ++ b) ++ c) ++ d ≡ a ++ ((b ++ c) ++ d)
 regroup a b c d = append_assoc (a ++ b) c d ∙ append_assoc a b (c ++ d) ∙ ap (λ (t : List ℕ). a ++ t) (sym (append_assoc b c d))
 
 -- a stamp: its epoch, then its number, then its call
-stamp_parts : (stamp : Stamp) → stamp_text stamp ≡ (decimal stamp.epoch ++ codes ".") ++ ((decimal stamp.number ++ codes ".") ++ call_text (ends_with stamp))
+pub stamp_parts : (stamp : Stamp) → stamp_text stamp ≡ (decimal stamp.epoch ++ codes ".") ++ ((decimal stamp.number ++ codes ".") ++ call_text (ends_with stamp))
 stamp_parts stamp =
     let a = decimal stamp.epoch ++ codes "." in
     let b = decimal stamp.number in
@@ -112,7 +109,7 @@ stamp_read stamp fits =
     rw (cut_stamp stamp fits) (rw e (rw (count_read stamp.epoch fits.epoch) (rw (number_read 18446744073709551615 stamp.number (omega arith) fits.number) (rw (call_read (ends_with stamp) (record { proxy = fits.proxy; seq = fits.seq })) refl))))
 
 -- a value's digits
-lower_at : (d : ℕ) → d < 16 → is_lower_digit (slice_index lower_digits d) ≡ true
+pub lower_at : (d : ℕ) → d < 16 → is_lower_digit (slice_index lower_digits d) ≡ true
 lower_at d small = AllPass-from_list_all is_lower_digit lower_digits refl d 0 small
 
 all_lower : (bytes : List ℕ) → IsBytes bytes → list_all is_lower_digit (encode_lower bytes) ≡ true
@@ -143,11 +140,11 @@ value_read (b ∷ bs) fits =
     (rw (all_lower (b ∷ bs) fits.bytes) (rw (decode_of-encode_lower (b ∷ bs) fits.bytes) refl))))
 
 -- a text without the byte, by a test
-abbrev is_free : ℕ → List ℕ → Bool
+abbrev pub is_free : ℕ → List ℕ → Bool
 is_free byte [] = true
 is_free byte (c ∷ cs) = cond (c == byte) false (is_free byte cs)
 
-free_from : (byte : ℕ) (text : List ℕ) → is_free byte text ≡ true → IsFree byte text
+pub free_from : (byte : ℕ) (text : List ℕ) → is_free byte text ≡ true → IsFree byte text
 free_from byte [] h = tt
 free_from byte (c ∷ cs) h = by_test (λ i. free_from byte cs i) (c == byte) refl h
   where
@@ -179,7 +176,7 @@ keyed_read key value low fits =
     rw e (rw (key_read key low) (rw (value_read value fits) refl))
 
 -- the word that a text begins with
-word_cut : (word rest : List ℕ) → is_free 32 word ≡ true → cut 32 (word ++ 32 ∷ rest) ≡ Some (word, rest)
+pub word_cut : (word rest : List ℕ) → is_free 32 word ≡ true → cut 32 (word ++ 32 ∷ rest) ≡ Some (word, rest)
 word_cut word rest free = cut_here 32 word rest (free_from 32 word free)
 
 work_read : (key : KeyId) (work : Work) → key.0 ≤ 999 → FitsWork work → work_says (work_text key.0 work) ≡ Some (key, work)

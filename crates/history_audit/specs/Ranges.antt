@@ -1,5 +1,5 @@
 -- The marks whose numbers and values are within the ranges of a log: what is written of them is read back.
-use Rattle.std.specs.Prelude.{◌≡◌, ℕ, ◌≤◌, List, length, Some}
+use Rattle.std.specs.Prelude.{◌≡◌, ℕ, ◌<◌, ◌≤◌, List, ◌++◌, length, Some, Ok, Contains}
 use Rattle.hex.specs.Hex.{IsBytes}
 use Rattle.span_base.specs.declared.ids.Call.{Call}
 use Rattle.ticket_rules.specs.declared.stamp.Stamp.{Stamp}
@@ -11,9 +11,10 @@ use Rattle.run_marks.specs.declared.mark.NoEpochCause.{NoEpochCause}
 use Rattle.run_marks.specs.declared.mark.NoEpochCause.TheVariants.{MissingSet, NotQuorum}
 use Rattle.run_marks.specs.declared.mark.Mark.{Mark}
 use Rattle.run_marks.specs.declared.mark.Mark.TheVariants as k
-use Rattle.run_marks.specs.Text.{mark_text}
+use Rattle.run_marks.specs.Text.{mark_text, marks_text, messages_line}
 use Rattle.history_audit.specs.declared.line.LogLine.TheVariants as l
 use Rattle.history_audit.specs.Lines.{line_says}
+use Rattle.history_audit.specs.Texts.{log_says}
 
 -- a call: one of 64 proxies, and a number of 32 bits
 pub record FitsCall (call : Call) : Type 0 where
@@ -67,3 +68,8 @@ FitsMark (k.NoEpoch cause) = FitsCause cause
 -- the line that is written of a mark says that mark
 abbrev pub MarksAreReadBack : Type 0
 MarksAreReadBack = (mark : Mark) → FitsMark mark → line_says (mark_text mark) ≡ Some (l.Mark mark)
+
+-- a whole log that is written says its marks
+abbrev pub LogsAreReadBack : Type 0
+LogsAreReadBack =
+    (marks : List Mark) (sent : ℕ) → ((mark : Mark) → Contains marks mark → FitsMark mark) → length marks < 4000000 → sent ≤ 4294967295 → log_says (marks_text marks ++ messages_line sent) ≡ Ok marks

@@ -3,7 +3,7 @@
 ghost use Rattle.std.specs.Prelude.{◌≡◌, Ok, Err, codes};
 ghost use Rattle.history_audit.specs.Texts.{log_says, Bad};
 ghost use Rattle.history_audit.specs.Counted.{CountedKeepsClauses};
-ghost use Rattle.history_audit.specs.Ranges.{MarksAreReadBack};
+ghost use Rattle.history_audit.specs.Ranges.{LogsAreReadBack, MarksAreReadBack};
 ghost use Rattle.history_audit.specs.Rows.{stale_text, stale_marks, early_text, early_marks, going_on, unended};
 
 /// Small texts say what was worked by hand: the marks of two logs, and the line at which a text
@@ -24,7 +24,8 @@ pub fn counted_calls_keep_clauses()
 {}
 
 /// What is written of a mark whose numbers and values are within the ranges of a log is read back
-/// as that mark.
+/// as that mark, and a log of such marks says them.
 pub fn marks_are_read_back()
-    ensures { MarksAreReadBack }
+    ensures marks { MarksAreReadBack }
+    ensures logs { LogsAreReadBack }
 {}
