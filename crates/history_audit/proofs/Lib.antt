@@ -20,3 +20,4 @@ mod Effective
 mod Auditing
 mod ReadBack
 mod LogBack
+mod OneAnswer

@@ -67,3 +67,15 @@ pub record HasRead (text : List ℕ) (auditor : Auditor) (line : ℕ) (left : Re
   pub says : log_says text ≡ led_by_marks front left
   pub line_is : line ≡ length front + 1
   pub stands : Stands front auditor
+
+-- the answer isn't that memory lacked
+abbrev pub HadMemory : Result Summary AuditFault → Type 0
+HadMemory (Ok summary) = Unit {0}
+HadMemory (Err (fault.Bad line)) = Unit {0}
+HadMemory (Err (fault.Limit line)) = Unit {0}
+HadMemory (Err (fault.Broken line broken)) = Unit {0}
+HadMemory (Err (fault.NoMemory error)) = ⊥
+
+-- but for want of memory a text has one answer
+abbrev pub OneAnswer : Type 0
+OneAnswer = (text : List ℕ) (one other : Result Summary AuditFault) → AuditEnds text one → AuditEnds text other → HadMemory one → HadMemory other → one ≡ other

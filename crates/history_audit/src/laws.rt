@@ -2,6 +2,7 @@
 
 ghost use Rattle.std.specs.Prelude.{◌≡◌, Ok, Err, codes};
 ghost use Rattle.history_audit.specs.Texts.{log_says, Bad};
+ghost use Rattle.history_audit.specs.Audited.{OneAnswer};
 ghost use Rattle.history_audit.specs.Counted.{CountedKeepsClauses};
 ghost use Rattle.history_audit.specs.Ranges.{LogsAreReadBack, MarksAreReadBack};
 ghost use Rattle.history_audit.specs.Rows.{stale_text, stale_marks, early_text, early_marks, going_on, unended};
@@ -28,4 +29,9 @@ pub fn counted_calls_keep_clauses()
 pub fn marks_are_read_back()
     ensures marks { MarksAreReadBack }
     ensures logs { LogsAreReadBack }
+{}
+
+/// But for want of memory the audit of a text has one answer.
+pub fn audits_answer_alike()
+    ensures { OneAnswer }
 {}

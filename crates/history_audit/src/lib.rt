@@ -15,7 +15,9 @@ mod whole_log;
 mod words;
 
 pub use fault::{AuditFault, Clause};
-pub use laws::{counted_calls_keep_clauses, marks_are_read_back, worked_texts_are_read};
+pub use laws::{
+    audits_answer_alike, counted_calls_keep_clauses, marks_are_read_back, worked_texts_are_read,
+};
 pub use summary::Summary;
 pub use whole_log::audit;
 
