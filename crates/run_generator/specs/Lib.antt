@@ -1,0 +1,4 @@
+pub mod Header
+pub mod Chosen
+pub mod Told
+pub mod Standing
