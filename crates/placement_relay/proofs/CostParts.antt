@@ -11,7 +11,7 @@ use Rattle.workload.specs.declared.rules.Demand.{Demand}
 use Rattle.slo_rules.specs.Cost.{policy_cost, reading_cost, hops_cost, stored_cost, puts_cost, gets_cost}
 use Rattle.zero_one.specs.Rows.{bit_of}
 use Rattle.zero_one.specs.Program.{value_of}
-use Rattle.placement_rows.specs.Centres.{centres, numbered_members}
+use Rattle.placement_rows.specs.Centres.{centres, numbered_members, nobody}
 use Rattle.placement_rows.specs.Providers.{asks_providers, provider_costs, providers}
 use Rattle.placement_relay.specs.Reading.{h, reading_costs}
 use Rattle.placement_relay.specs.Direct.{replica_cost}
@@ -21,7 +21,7 @@ use Rattle.placement_rows.proofs.Sums.{sum_by-agree, sum_by-filter, sum_by-add, 
 use Rattle.placement_rows.proofs.Growing.{cond-le, sum_by-range_le, sum_by-numbered_le}
 use Rattle.placement_rows.proofs.Pieces.{value-squares}
 use Rattle.placement_rows.proofs.Values.{value-append, value-nothing, value-block, value-blocks}
-use Rattle.placement_relay.proofs.Members.{nobody, reading-variables}
+use Rattle.placement_relay.proofs.Members.{reading-variables}
 
 -- what the gets of a member cost by a choice, and its puts
 abbrev pub chosen_gets : Lists → ℕ → List Bool → ℕ × Demand → ℕ

@@ -13,14 +13,13 @@ use Rattle.workload.specs.World.{Lists, centre_count, rule_of, members_of}
 use Rattle.workload.specs.declared.rules.Demand.{Demand}
 use Rattle.slo_rules.specs.Rules.{is_write_near, is_direct_for, hops_due, centres_asking}
 use Rattle.zero_one.specs.Rows.{bit_of}
-use Rattle.placement_rows.specs.Centres.{centres, numbered_members}
+use Rattle.placement_rows.specs.Centres.{centres, numbered_members, nobody}
 use Rattle.placement_relay.specs.Relay.{q}
 use Rattle.placement_relay.specs.Placed.{has_hop, chosen_replicas, chosen_parent, chosen_hop, chosen_hops, or_first}
-use Rattle.placement_rows.proofs.Collected.{centres_of-collected}
+use Rattle.placement_rows.proofs.Collected.{centres_of-set_of}
 use Rattle.placement_rows.proofs.Each.{each-map, each-flat_map, each-kept, each-numbered, each-weaker, any-each}
 use Rattle.placement_rows.proofs.Growing.{sum_by-range_le}
 use Rattle.placement_rows.proofs.Sums.{sum_by-filter, count_by-some, find-some}
-use Rattle.placement_relay.proofs.Members.{nobody}
 use Rattle.placement_relay.proofs.Serving.{AreWritten}
 use Rattle.placement_relay.proofs.Allowed.{Passes, ends_of}
 use Rattle.placement_relay.proofs.MetHops.{Writes}
@@ -102,7 +101,7 @@ module _ (w : Lists) (set : ℕ) (x : List Bool) where
   pub due-chosen : centre_count w ≤ 16 → map ends_of (chosen_hops w set x) ≡ hops_due (centres_asking (members_of w set)) (centres_of (chosen_replicas w x))
   due-chosen few =
       due_of (filter (bit_of x) (centres w)) 0 (members_of w set)
-      ∙ ap (hops_due (centres_asking (members_of w set))) (sym (centres_of-collected (bit_of x) (centre_count w) few))
+      ∙ ap (hops_due (centres_asking (members_of w set))) (sym (centres_of-set_of (bit_of x) (centre_count w) few))
 
   -- a member's hop from a replica to itself is chosen
   direct-chosen : (a p : ℕ) → a < length (members_of w set) → p < centre_count w → bit_of x p ≡ true → bit_of x (q w set a p p) ≡ true → is_direct_for (chosen_hops w set x) (get_or (members_of w set) a nobody).dc.0 p ≡ true

@@ -10,16 +10,15 @@ use Rattle.workload.specs.World.{Lists, centre_count, rule_of, members_of}
 use Rattle.workload.specs.declared.rules.Demand.{Demand}
 use Rattle.slo_rules.specs.Rules.{is_read_near, is_write_near}
 use Rattle.zero_one.specs.Rows.{Meets, bit_of}
-use Rattle.placement_rows.specs.Centres.{centres, numbered_members, read_near, write_near}
+use Rattle.placement_rows.specs.Centres.{centres, numbered_members, read_near, write_near, nobody}
 use Rattle.placement_rows.specs.Providers.{asks_providers, provider_rows}
 use Rattle.placement_relay.specs.Reading.{h}
 use Rattle.placement_relay.specs.Programs.{mode_costs, keeping}
 use Rattle.placement_relay.specs.Placed.{chosen_replicas, chosen_primary, chosen_primaries, or_first}
-use Rattle.placement_rows.proofs.Collected.{has-collected, collected-below, centres_of-below}
+use Rattle.placement_rows.proofs.Collected.{has-set_of, set_of-below, centres_of-below}
 use Rattle.placement_rows.proofs.Each.{each-weaker}
 use Rattle.placement_rows.proofs.ProviderRows.{Keeps, centres-keep, provider-rows-back}
 use Rattle.placement_rows.proofs.Sums.{Found, zip_numbered, find-some}
-use Rattle.placement_relay.proofs.Members.{nobody}
 use Rattle.placement_relay.proofs.Rules.{some_provider, lies_below-from}
 use Rattle.placement_relay.proofs.Serving.{IsServing, Serves, AreWritten, below_count}
 use Rattle.placement_relay.proofs.MetRows.{Reads, Enough}
@@ -29,10 +28,10 @@ use Rattle.placement_relay.proofs.ReadingBits.{nowhere}
 module _ (w : Lists) (set : ℕ) (x : List Bool) (few : centre_count w ≤ 16) where
   -- the chosen replicas are the centres whose variable is 1
   pub has-chosen : (d : ℕ) → d < centre_count w → has (chosen_replicas w x) d ≡ bit_of x d
-  has-chosen d low = has-collected (bit_of x) (centre_count w) few d low
+  has-chosen d low = has-set_of (bit_of x) (centre_count w) few d low
 
   pub within : centres_of (chosen_replicas w x) ≡ filter (has (chosen_replicas w x)) (centres w)
-  within = centres_of-below (chosen_replicas w x) (centre_count w) few (collected-below (bit_of x) (centre_count w))
+  within = centres_of-below (chosen_replicas w x) (centre_count w) few (set_of-below (bit_of x) (centre_count w))
 
   same_bits : (d : ℕ) → d < centre_count w → bit_of x d ≡ has (chosen_replicas w x) d
   same_bits d low = sym (has-chosen d low)
@@ -91,7 +90,7 @@ module _ (w : Lists) (set : ℕ) (x : List Bool) (few : centre_count w ≤ 16) w
           served = zip_numbered (Serves w r (chosen_replicas w x)) (chosen_primary w set x) nobody 0 members
               (λ k in'. subst (λ a. Serves w r (chosen_replicas w x) (get_or members k nobody) (chosen_primary w set x (a, get_or members k nobody))) (let e : k ≡ 0 + k = omega arith in e) (chosen_serves k in'));
           reading = enough_read;
-          lies = lies_below-from (centre_count w) (chosen_replicas w x) (collected-below (bit_of x) (centre_count w));
+          lies = lies_below-from (centre_count w) (chosen_replicas w x) (set_of-below (bit_of x) (centre_count w));
           apart = provider-rows-back w set x (length (mode_costs w set)) (keeping w) (centres_of (chosen_replicas w x)) keeps (below_count w (chosen_replicas w x) within)
               (some_provider w (centres_of (chosen_replicas w x)) (some_replica members some enough_read)) (asks_providers w set) refl met;
         }

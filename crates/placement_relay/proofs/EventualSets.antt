@@ -25,7 +25,7 @@ use Rattle.placement_relay.proofs.PlacedLaws.{placed-direct, placed-relay}
 use Rattle.placement_relay.proofs.DecodedLaws.{decoded-by, feasible-decoded}
 
 -- the members stand in different centres
-members_apart : (w : Lists) (set : ℕ) → IsEventualSet w set → AllPairs (λ a b. a.dc.0 ≢ b.dc.0) (members_of w set)
+pub members_apart : (w : Lists) (set : ℕ) → IsEventualSet w set → AllPairs (λ a b. a.dc.0 ≢ b.dc.0) (members_of w set)
 members_apart w set s = (s.named.sets.each set no_set s.there).distinct
 
 -- a mode is told by its number

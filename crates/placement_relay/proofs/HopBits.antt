@@ -9,10 +9,10 @@ use Rattle.span_base.specs.declared.policy.Hop.{Hop}
 use Rattle.workload.specs.World.{Lists, centre_count, members_of}
 use Rattle.workload.specs.declared.rules.Demand.{Demand}
 use Rattle.zero_one.specs.Rows.{bit_of}
+use Rattle.placement_rows.specs.Centres.{nobody}
 use Rattle.placement_relay.specs.Relay.{q}
 use Rattle.placement_relay.specs.Placed.{reading_bits, has_hop, member_hop_bits, hop_bits}
 use Rattle.placement_rows.proofs.Pieces.{length-pieces, length-square, get_or-squares}
-use Rattle.placement_relay.proofs.Members.{nobody}
 use Rattle.placement_relay.proofs.ReadingBits.{long-reading}
 
 module _ (w : Lists) (set : ℕ) (replicas : DcSet) (primary : List Near) (hops : List Hop) (tail : List Bool) where

@@ -13,6 +13,7 @@ pub mod HopsDue
 pub mod CostParts
 pub mod ReadingBits
 pub mod HopBits
+pub mod HopPlaces
 pub mod PlacedReading
 pub mod PlacedHops
 pub mod PlacedLaws
@@ -20,3 +21,4 @@ pub mod DecodedReading
 pub mod DecodedHops
 pub mod DecodedLaws
 pub mod EventualSets
+pub mod AllowedHops

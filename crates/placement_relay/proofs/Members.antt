@@ -19,10 +19,6 @@ use Rattle.placement_relay.specs.Laws.{IsEventualSet}
 use Rattle.placement_rows.proofs.Sums.{length-blocks}
 use Rattle.placement_rows.proofs.Pieces.{length-pieces, length-square}
 
--- no member
-abbrev pub nobody : Demand
-nobody = record { dc = record { 0 = 0 }; gets = 0; puts = 0 }
-
 pub set_within : (w : Lists) (set : ℕ) → IsEventualSet w set → IsSetWithin (centre_count w) (set_of w set)
 set_within w set s = s.complete.sets set no_set s.there
 

@@ -7,12 +7,11 @@ use Rattle.std.proofs.lemmas.List.Sums.{sum_by-cons}
 use Rattle.workload.specs.World.{Lists, centre_count, rule_of, members_of}
 use Rattle.workload.specs.declared.rules.Demand.{Demand}
 use Rattle.zero_one.specs.Rows.{Meets, bit_of}
-use Rattle.placement_rows.specs.Centres.{centres, member_numbers, numbered_members, write_near}
+use Rattle.placement_rows.specs.Centres.{centres, member_numbers, numbered_members, write_near, nobody}
 use Rattle.placement_rows.specs.Rows.{backed, answered}
 use Rattle.placement_relay.specs.Relay.{q, comes_from_somewhere, has_them_itself, others, writes_a_replica, writes_near, hop_rows}
 use Rattle.placement_rows.proofs.Each.{each-append, each-split, each-map, each-map_back, each-flat_map, each-flat_map_back, each-range, each-range_at, each-kept, each-kept_at, each-numbered, each-numbered_at}
 use Rattle.placement_rows.proofs.Values.{meets-plus, meets-plus-back, meets-under, meets-under-back, meets-answered, meets-answered-back}
-use Rattle.placement_relay.proofs.Members.{nobody}
 
 -- each member's writes come to each replica from somewhere; what passes them on has them from the
 -- member itself, and is a replica; and each member writes to enough near centres itself

@@ -5,12 +5,11 @@ use Rattle.workload.specs.World.{Lists, centre_count, rule_of, members_of}
 use Rattle.workload.specs.declared.rules.Demand.{Demand}
 use Rattle.zero_one.specs.declared.rows.Row.{Row}
 use Rattle.zero_one.specs.Rows.{Meets, bit_of}
-use Rattle.placement_rows.specs.Centres.{centres, member_numbers, numbered_members, read_near, write_near}
+use Rattle.placement_rows.specs.Centres.{centres, member_numbers, numbered_members, read_near, write_near, nobody}
 use Rattle.placement_relay.specs.Reading.{h, reads_somewhere, reads_a_replica, has_replicas, reading_rows}
 use Rattle.placement_relay.specs.Direct.{direct_rows}
 use Rattle.placement_rows.proofs.Each.{each-append, each-split, each-map, each-map_back, each-flat_map, each-flat_map_back, each-range, each-range_at, each-numbered, each-numbered_at}
 use Rattle.placement_rows.proofs.Values.{meets-plus, meets-plus-back, meets-under, meets-under-back}
-use Rattle.placement_relay.proofs.Members.{nobody}
 
 -- more than `f` of these centres keep a replica by the choice, for each member
 abbrev pub Enough : Lists → ℕ → List Bool → (Demand → List ℕ) → Type 0

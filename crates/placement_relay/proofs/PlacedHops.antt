@@ -15,13 +15,12 @@ use Rattle.workload.specs.declared.rules.Demand.{Demand}
 use Rattle.slo_rules.specs.Rules.{is_write_near, is_direct_for, hops_due, centres_asking}
 use Rattle.slo_rules.specs.Cost.{puts_cost, source_of, hop_cost, hops_cost}
 use Rattle.zero_one.specs.Rows.{bit_of}
-use Rattle.placement_rows.specs.Centres.{centres, numbered_members, write_near}
+use Rattle.placement_rows.specs.Centres.{centres, numbered_members, write_near, nobody}
 use Rattle.placement_relay.specs.Relay.{q, passed_cost}
 use Rattle.placement_relay.specs.Placed.{has_hop}
 use Rattle.placement_rows.proofs.Each.{each-map, each-map_back, each-flat_map, any-each}
 use Rattle.placement_rows.proofs.Sums.{sum_by-agree, sum_by-range_agree, sum_by-filter, count_by-some}
 use Rattle.placement_rows.proofs.Growing.{sum_by-range_le, sum_by-numbers}
-use Rattle.placement_relay.proofs.Members.{nobody}
 use Rattle.placement_relay.proofs.Serving.{below_count}
 use Rattle.placement_relay.proofs.Allowed.{IsRelay, Passes, ends_of, each-both}
 use Rattle.placement_relay.proofs.MetHops.{Writes}
@@ -51,8 +50,8 @@ hop-price w set m hop true is =
 hop-price w set m hop false is = refl
 
 module _ (w : Lists) (set : ℕ) (f : ℕ) (replicas : DcSet) (primary : List Near) (hops : List Hop) (relay : IsRelay w set f replicas primary hops) (apart : AllPairs (λ a b. a.dc.0 ≢ b.dc.0) (members_of w set)) where
-  low : AllByRecursion (λ (hop : Hop). (hop.child.0 < centre_count w) × (hop.parent.0 < centre_count w)) hops
-  low =
+  pub hops-low : AllByRecursion (λ (hop : Hop). (hop.child.0 < centre_count w) × (hop.parent.0 < centre_count w)) hops
+  hops-low =
       let n = centre_count w in
       let kept = below_count w replicas relay.serving.within in
       let due : AllByRecursion (λ (e : ℕ × ℕ). e.1 < n) (hops_due (centres_asking (members_of w set)) (centres_of replicas)) =
@@ -85,7 +84,7 @@ module _ (w : Lists) (set : ℕ) (f : ℕ) (replicas : DcSet) (primary : List Ne
         arith,
         both,
         count-to hops (centres_asking (members_of w set)) (centres_of replicas) relay.due m d,
-        count-from hops (centres_asking (members_of w set)) (centres_of replicas) relay.due alone each-once (centre_count w) low m d,
+        count-from hops (centres_asking (members_of w set)) (centres_of replicas) relay.due alone each-once (centre_count w) hops-low m d,
       )
 
   -- what passes writes on has them from the member itself, and is a replica
@@ -148,7 +147,7 @@ module _ (w : Lists) (set : ℕ) (f : ℕ) (replicas : DcSet) (primary : List Ne
         let m = get_or (members_of w set) k nobody in
         let at : k ≡ 0 + k = omega arith in
         sum_by-agree (hop_cost w (rule_of w set) m) (λ (hop : Hop). cond (hop.member.0 == m.dc.0) (passed_cost w set m hop.parent.0 hop.child.0) 0) (λ hop. hop-price w set m hop (hop.member.0 == m.dc.0) refl) hops
-        ∙ sym (hop-sums hops (centres_asking (members_of w set)) (centres_of replicas) relay.due alone each-once n low m.dc.0 (passed_cost w set m))
+        ∙ sym (hop-sums hops (centres_asking (members_of w set)) (centres_of replicas) relay.due alone each-once n hops-low m.dc.0 (passed_cost w set m))
         ∙ sym (sum_by-range_agree (λ p. sum_by (λ d. cond (bit_of x (q w set k p d)) (passed_cost w set m p d) 0) (centres w)) (λ p. sum_by (λ d. cond (has_hop hops m.dc.0 p d) (passed_cost w set m p d) 0) (centres w)) 0 n
         (λ p from to. sum_by-range_agree (λ d. cond (bit_of x (q w set k p d)) (passed_cost w set m p d) 0) (λ d. cond (has_hop hops m.dc.0 p d) (passed_cost w set m p d) 0) 0 n
         (λ d from' to'. ap (λ b. cond b (passed_cost w set m p d) 0) (hop k p d in' (omega arith) (omega arith)))))

@@ -16,7 +16,7 @@ use Rattle.slo_rules.specs.Rules.{same_provider}
 use Rattle.slo_rules.specs.Cost.{policy_cost, stored_cost}
 use Rattle.zero_one.specs.Rows.{Meets, bit_of}
 use Rattle.zero_one.specs.Program.{IsFeasible, value_of}
-use Rattle.placement_rows.specs.Centres.{centres, numbered_members}
+use Rattle.placement_rows.specs.Centres.{centres, numbered_members, nobody}
 use Rattle.placement_rows.specs.Providers.{asks_providers, providers, provider_costs, provider_rows, provider_bits}
 use Rattle.placement_relay.specs.Reading.{h, reading_costs}
 use Rattle.placement_relay.specs.Relay.{q, hop_rows}
@@ -26,7 +26,7 @@ use Rattle.placement_relay.specs.Placed.{placed, reading_bits, has_hop, hop_bits
 use Rattle.placement_relay.specs.Laws.{IsPlaced}
 use Rattle.placement_rows.proofs.Each.{each-append}
 use Rattle.placement_rows.proofs.ProviderRows.{Keeps, centres-keep, no-rows, provider-rows-from}
-use Rattle.placement_relay.proofs.Members.{nobody, direct-count, relay-count}
+use Rattle.placement_relay.proofs.Members.{direct-count, relay-count}
 use Rattle.placement_relay.proofs.Serving.{IsServing, below_count}
 use Rattle.placement_relay.proofs.Allowed.{IsDirect, IsRelay}
 use Rattle.placement_relay.proofs.MetRows.{reading-from, direct-from as direct-met}

@@ -11,11 +11,10 @@ use Rattle.slo_rules.specs.Rules.{is_read_near, is_write_near}
 use Rattle.slo_rules.specs.Cost.{gets_cost, reading_cost}
 use Rattle.zero_one.specs.Rows.{bit_of}
 use Rattle.zero_one.specs.Program.{value_of}
-use Rattle.placement_rows.specs.Centres.{centres, write_near}
+use Rattle.placement_rows.specs.Centres.{centres, write_near, nobody}
 use Rattle.placement_relay.specs.Reading.{h, reading_costs}
 use Rattle.placement_rows.proofs.Each.{each-weaker}
 use Rattle.placement_rows.proofs.Sums.{sum_by-range_agree, sum_by-one, count_by-some, numbered-zip, zip_long, zip_at}
-use Rattle.placement_relay.proofs.Members.{nobody}
 use Rattle.placement_relay.proofs.Serving.{IsServing, AreWritten, Serves}
 use Rattle.placement_relay.proofs.MetRows.{Reads, Enough}
 use Rattle.placement_relay.proofs.CostParts.{chosen_gets, reading-value, count-near}

@@ -10,7 +10,7 @@ use Rattle.workload.specs.declared.rules.Demand.{Demand}
 use Rattle.workload.specs.declared.rules.Mode.{Mode}
 use Rattle.workload.specs.declared.rules.Mode.TheVariants as mode
 use Rattle.slo_rules.specs.Rules.{is_read_near, is_write_near}
-use Rattle.placement_rows.specs.Centres.{centres, member_numbers, numbered_members, read_near, write_near}
+use Rattle.placement_rows.specs.Centres.{centres, member_numbers, numbered_members, read_near, write_near, nobody}
 use Rattle.placement_rows.specs.Rows.{backed, answered}
 use Rattle.placement_relay.specs.Reading.{h, reads_somewhere, reads_a_replica, has_replicas, reading_rows}
 use Rattle.placement_relay.specs.Direct.{direct_rows}
@@ -19,7 +19,7 @@ use Rattle.placement_relay.specs.Programs.{rows_by, mode_costs}
 use Rattle.placement_relay.specs.Laws.{IsEventualSet}
 use Rattle.placement_rows.proofs.Fits.{IsFit, rising_row, plus_row, two_row, two_row_back, answered_row}
 use Rattle.placement_rows.proofs.Each.{each-append, each-map, each-flat_map, each-range, each-kept, each-numbered, each-weaker}
-use Rattle.placement_relay.proofs.Members.{nobody, set_within, hop-low, direct-count, relay-count}
+use Rattle.placement_relay.proofs.Members.{set_within, hop-low, direct-count, relay-count}
 
 -- a row of two different variables, in whichever order they stand
 implied_fits : (count up low : ℕ) → (up ≡ low → ⊥) → up < count → low < count → IsFit count (implied up low)

@@ -5,3 +5,4 @@ pub mod Programs
 pub mod Placed
 pub mod Laws
 pub mod Examples
+pub mod HopPlaces

@@ -4,6 +4,7 @@ ghost use Rattle.std.specs.List.{flat_map};
 ghost use Rattle.workload.specs.World.{IsDemandWithin, centre_count, rule_of, members_of};
 ghost use Rattle.slo_rules.specs.Cost.{stored_cost, gets_cost, puts_cost};
 ghost use Rattle.placement_rows.specs.Centres.{centres};
+ghost use Rattle.placement_rows.specs.FirstCentres.{AreFound};
 ghost use Rattle.placement_relay.specs.Reading.{reading_costs};
 ghost use Rattle.placement_relay.specs.Direct.{replica_cost, direct_costs};
 ghost use Rattle.placement_relay.specs.Relay.{passed_cost, hop_costs, relay_costs};
@@ -11,7 +12,7 @@ ghost use Rattle.placement_relay.specs.Programs.{mode_costs, set_costs};
 ghost use Rattle.placement_relay.specs.Laws.{IsEventualSet};
 
 use crate::variables::most_variables;
-use placement_rows::push_provider_costs;
+use placement_rows::{FirstCentres, push_provider_costs};
 use slo_rules::{gets_cost, puts_cost, stored_cost};
 use span_base::{DcId, SetId};
 use std::alloc::{AllocError, Global};
@@ -188,12 +189,18 @@ fn push_mode_costs(costs: &mut Vec<u128>, world: &World, set: SetId) -> Result<(
 }
 
 /// The costs of all variables.
-pub(crate) fn set_costs(alloc: Global, world: &World, set: SetId) -> Result<Vec<u128>, AllocError>
-    requires { IsEventualSet world.now set.0 }
+pub(crate) fn set_costs(
+    alloc: Global,
+    world: &World,
+    set: SetId,
+    firsts: &FirstCentres,
+) -> Result<Vec<u128>, AllocError>
+    requires set { IsEventualSet world.now set.0 }
+    requires found { AreFound world.now set.0 firsts.now }
     ensures { IfOk result (λ costs. costs.items ≡ set_costs world.now set.0) }
 {
     let mut costs = Vec::with_capacity(alloc, most_variables(world, set))?;
     push_mode_costs(&mut costs, world, set)?;
-    push_provider_costs(&mut costs, world, set)?;
+    push_provider_costs(&mut costs, world, set, firsts)?;
     Ok(costs)
 }

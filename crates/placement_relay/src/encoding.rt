@@ -4,6 +4,7 @@ ghost use Rattle.placement_relay.specs.Laws.{IsEventualSet};
 
 use crate::costs::set_costs;
 use crate::rows::set_rows;
+use placement_rows::FirstCentres;
 use span_base::SetId;
 use std::alloc::{AllocError, Global};
 use workload::World;
@@ -14,8 +15,9 @@ pub fn encode(alloc: Global, world: &World, set: SetId) -> Result<Program, Alloc
     requires { IsEventualSet world.now set.0 }
     ensures { IfOk result (λ program. program ≡ set_program world.now set.0) }
 {
-    let costs = set_costs(alloc, world, set)?;
-    let rows = set_rows(alloc, world, set)?;
+    let firsts = FirstCentres::find(world, set);
+    let costs = set_costs(alloc, world, set, &firsts)?;
+    let rows = set_rows(alloc, world, set, &firsts)?;
     let Ok(program) = Program::make(costs, rows) else {
         unreachable!()
     };

@@ -1,16 +1,18 @@
-ghost use Rattle.std.specs.Prelude.{◌≡◌, ◌<◌, ◌++◌, length, map, ◌==◌, IfOk, OnOk};
+ghost use Rattle.std.specs.Prelude.{◌≡◌, ◌+◌, ◌*◌, ◌<◌, ◌++◌, map, replicate, ◌==◌, false, All, IfOk, OnOk};
 ghost use Rattle.std.specs.List.{flat_map};
 ghost use Rattle.span_base.specs.DcSet.{has};
+ghost use Rattle.workload.specs.World.{centre_count};
 ghost use Rattle.slo_rules.specs.Rules.{IsAllowed};
 ghost use Rattle.slo_rules.specs.Cost.{policy_cost};
 ghost use Rattle.zero_one.specs.Program.{IsFeasible, value_of};
 ghost use Rattle.placement_rows.specs.Centres.{centres};
 ghost use Rattle.placement_relay.specs.Programs.{set_program, set_costs};
-ghost use Rattle.placement_relay.specs.Placed.{placed, reading_bits, has_hop, member_hop_bits, hop_bits, mode_bits};
+ghost use Rattle.placement_relay.specs.Placed.{placed, reading_bits, hop_bits, mode_bits};
+ghost use Rattle.placement_relay.specs.HopPlaces.{AreNumbers, IsHopOf};
 ghost use Rattle.placement_relay.specs.Laws.{IsEventualSet};
 
 use crate::variables::most_variables;
-use placement_rows::push_provider_bits;
+use placement_rows::{FirstCentres, push_provider_bits};
 use span_base::{DcId, DcSet, Hop, Near, Policy, SetId};
 use std::alloc::{AllocError, Global};
 use workload::World;
@@ -48,59 +50,61 @@ fn push_primaries(bits: &mut Vec<bool>, world: &World, primary: &[Near]) -> Resu
     Ok(())
 }
 
-/// Whether one of the hops is the member's to centre `d` from centre `p`.
-fn has_hop(hops: &[Hop], member: DcId, p: u8, d: u8) -> bool
-    ensures { result ≡ has_hop hops.now member.0 p d }
+/// The members' numbers, each at the member's centre.
+fn member_numbers(world: &World, set: SetId) -> [u8; 16]
+    requires { IsEventualSet world.now set.0 }
+    ensures { AreNumbers world.now set.0 result }
 {
-    hops.iter().any(|hop| hop.member.0 == member.0 && hop.child.0 == d && hop.parent.0 == p)
+    let _count = world.centre_count();
+    let mut numbers = [0; 16];
+    for (a, member) in world.members(set).iter().enumerate() {
+        numbers[usize::from(member.dc.0)] = a as u8;
+    }
+    numbers
 }
 
-/// Puts a bit for each centre at the end: whether the member's writes come there from `p`.
-#[tactic(auto, using(placement_rows::proofs::Loops::loops))]
-fn push_hops_from(
-    bits: &mut Vec<bool>,
-    world: &World,
-    hops: &[Hop],
-    member: DcId,
-    p: u8,
-) -> Result<(), AllocError>
-    ensures { OnOk result (bits.new.items ≡ bits.old.items ++ map (has_hop hops.now member.0 p) (centres world.now)) }
+/// Puts that many bits at the end that are 0.
+#[tactic(auto, using(placement_rows::proofs::Loops::copies))]
+fn push_zeros(bits: &mut Vec<bool>, count: usize) -> Result<(), AllocError>
+    ensures { OnOk result (bits.new.items ≡ bits.old.items ++ replicate count false) }
 {
-    for d in 0..world.centre_count() {
-        bits.push(has_hop(hops, member, p, d))?;
+    for _i in 0..count {
+        bits.push(false)?;
     }
     Ok(())
 }
 
-/// Puts a bit for each two centres at the end: whether the member's writes come to the second from
-/// the first.
-#[tactic(auto, using(placement_rows::proofs::Loops::loops))]
-fn push_member_hops(
-    bits: &mut Vec<bool>,
-    world: &World,
-    hops: &[Hop],
-    member: DcId,
-) -> Result<(), AllocError>
-    ensures { OnOk result (bits.new.items ≡ bits.old.items ++ member_hop_bits world.now hops.now member.0) }
+/// Where the bit of a hop stands among those of all hops; the member is counted from 0.
+fn hop_place(world: &World, a: u8, p: u8, d: u8) -> usize
+    requires number { a < 8 }
+    requires from { p < centre_count world.now }
+    requires to { d < centre_count world.now }
+    ensures place { result ≡ a * (centre_count world.now * centre_count world.now) + (p * centre_count world.now + d) }
+    ensures small { result < 2048 }
 {
-    for p in 0..world.centre_count() {
-        push_hops_from(bits, world, hops, member, p)?;
-    }
-    Ok(())
+    let n = usize::from(world.centre_count());
+    usize::from(a) * (n * n) + (usize::from(p) * n + usize::from(d))
 }
 
-/// Puts the bits of the hops of all members at the end.
+/// Puts the bits of the hops of all members at the end: one for each member and two centres, of
+/// which each hop's own is 1.
 fn push_hops(
     bits: &mut Vec<bool>,
     world: &World,
     set: SetId,
     hops: &[Hop],
 ) -> Result<(), AllocError>
-    requires { set.0 < length world.now.sets }
+    requires set { IsEventualSet world.now set.0 }
+    requires hops { All (IsHopOf world.now set.0) hops.now }
     ensures { OnOk result (bits.new.items ≡ bits.old.items ++ hop_bits world.now set.0 hops.now) }
 {
-    for member in world.members(set) {
-        push_member_hops(bits, world, hops, member.dc)?;
+    let n = usize::from(world.centre_count());
+    let numbers = member_numbers(world, set);
+    let first = bits.len();
+    push_zeros(bits, world.members(set).len() * (n * n))?;
+    for hop in hops {
+        let a = numbers[usize::from(hop.member.0)];
+        bits[first + hop_place(world, a, hop.parent.0, hop.child.0)] = true;
     }
     Ok(())
 }
@@ -125,7 +129,8 @@ fn push_mode_bits(
     set: SetId,
     policy: &Policy,
 ) -> Result<(), AllocError>
-    requires { set.0 < length world.now.sets }
+    requires set { IsEventualSet world.now set.0 }
+    requires allowed { IsAllowed world.now set.0 policy.now }
     ensures { OnOk result (bits.new.items ≡ bits.old.items ++ mode_bits world.now set.0 policy.now) }
 {
     match policy {
@@ -158,6 +163,7 @@ pub fn place(alloc: Global, world: &World, set: SetId, policy: &Policy) -> Resul
 {
     let mut bits = Vec::with_capacity(alloc, most_variables(world, set))?;
     push_mode_bits(&mut bits, world, set, policy)?;
-    push_provider_bits(&mut bits, world, set, &policy.replicas())?;
+    let firsts = FirstCentres::find(world, set);
+    push_provider_bits(&mut bits, world, set, &firsts, &policy.replicas())?;
     Ok(Bits::from_vec(bits))
 }

@@ -1,36 +1,33 @@
 //! The rows of a set's program, and those that direct and relay sets share.
 ghost use Rattle.std.specs.Prelude.{◌≡◌, ◌+◌, ◌*◌, ◌<◌, ◌≤◌, ◌++◌, length, map, IfOk, OnOk};
-ghost use Rattle.std.specs.List.{flat_map};
+ghost use Rattle.std.specs.List.{enumerate_from, flat_map};
 ghost use Rattle.span_base.specs.DcSet.{centres_of};
 ghost use Rattle.workload.specs.World.{members_of};
-ghost use Rattle.placement_rows.specs.Centres.{centres, member_numbers, numbered_members, read_near, write_near};
-ghost use Rattle.placement_relay.specs.Reading.{reads_somewhere, reads_a_replica, has_replicas, reading_rows};
-ghost use Rattle.placement_relay.specs.Direct.{direct_rows};
-ghost use Rattle.placement_relay.specs.Programs.{mode_rows, set_rows, keeping};
+ghost use Rattle.placement_rows.specs.Centres.{centres, member_numbers, write_near};
+ghost use Rattle.placement_rows.specs.Rows.{at_least};
+ghost use Rattle.placement_rows.specs.Providers.{provider_rows};
+ghost use Rattle.placement_rows.specs.FirstCentres.{AreFound};
+ghost use Rattle.placement_relay.specs.Reading.{h, reads_a_replica, has_replicas, reading_rows};
+ghost use Rattle.placement_relay.specs.Programs.{mode_costs, mode_rows, set_rows, keeping};
 ghost use Rattle.placement_relay.specs.Laws.{IsEventualSet};
 
 use crate::hops::push_hop_rows;
 use crate::variables::{first_provider, first_read};
-use placement_rows::{backed_row, push_provider_rows, read_near, sum_row, write_near};
+use placement_rows::{
+    FirstCentres, asks_providers, backed_row, push_provider_rows, read_near_sets, sum_row,
+    write_near_sets,
+};
 use span_base::{DcSet, SetId};
 use std::alloc::{AllocError, Global};
-use workload::{Demand, Mode, World};
+use workload::{Mode, World};
 use zero_one::Row;
 
-/// The member, which is counted from 0, reads at one of its read-near centres.
-fn reads_somewhere(
-    alloc: Global,
-    world: &World,
-    set: SetId,
-    a: usize,
-    member: &Demand,
-) -> Result<Row, AllocError>
-    requires set { IsEventualSet world.now set.0 }
-    requires number { a < 8 }
-    ensures { IfOk result (λ row. row ≡ reads_somewhere world.now set.0 (a, member.now)) }
+/// The member, which is counted from 0, reads at one of these centres.
+fn reads_somewhere(alloc: Global, world: &World, a: usize, near: &DcSet) -> Result<Row, AllocError>
+    requires { a < 8 }
+    ensures { IfOk result (λ row. row ≡ at_least 1 (h world.now a) (centres_of near.now)) }
 {
-    let near = read_near(world, set, member);
-    sum_row(alloc, &near, first_read(world, a), 1, 1)
+    sum_row(alloc, near, first_read(world, a), 1, 1)
 }
 
 /// More of these centres than may fail keep a replica.
@@ -41,18 +38,18 @@ fn has_replicas(alloc: Global, world: &World, set: SetId, near: &DcSet) -> Resul
     sum_row(alloc, near, 0, 1, world.rule(set).f + 1)
 }
 
-/// Puts at the end that each member reads somewhere.
+/// Puts at the end that each member reads at one of its near centres.
 fn push_reads_somewhere(
     rows: &mut Vec<Row>,
     alloc: Global,
     world: &World,
-    set: SetId,
+    near_sets: &[DcSet],
 ) -> Result<(), AllocError>
-    requires { IsEventualSet world.now set.0 }
-    ensures { OnOk result (rows.new.items ≡ rows.old.items ++ map (reads_somewhere world.now set.0) (numbered_members world.now set.0)) }
+    requires { length near_sets.now ≤ 8 }
+    ensures { OnOk result (rows.new.items ≡ rows.old.items ++ map (λ an. at_least 1 (h world.now an.0) (centres_of an.1)) (enumerate_from 0 near_sets.now)) }
 {
-    for (a, member) in world.members(set).iter().enumerate() {
-        rows.push(reads_somewhere(alloc, world, set, a, member)?)?;
+    for (a, near) in near_sets.iter().enumerate() {
+        rows.push(reads_somewhere(alloc, world, a, near)?)?;
     }
     Ok(())
 }
@@ -92,19 +89,19 @@ fn push_reads_a_replica(
     Ok(())
 }
 
-/// Puts at the end that each member has enough read-near replicas.
-fn push_read_near(
+/// Puts at the end that each member has enough replicas in its near centres.
+fn push_has_replicas(
     rows: &mut Vec<Row>,
     alloc: Global,
     world: &World,
     set: SetId,
+    near_sets: &[DcSet],
 ) -> Result<(), AllocError>
     requires { IsEventualSet world.now set.0 }
-    ensures { OnOk result (rows.new.items ≡ rows.old.items ++ map (λ m. has_replicas world.now set.0 (read_near world.now set.0 m)) (members_of world.now set.0)) }
+    ensures { OnOk result (rows.new.items ≡ rows.old.items ++ map (λ near. has_replicas world.now set.0 (centres_of near)) near_sets.now) }
 {
-    for member in world.members(set) {
-        let near = read_near(world, set, member);
-        rows.push(has_replicas(alloc, world, set, &near)?)?;
+    for near in near_sets {
+        rows.push(has_replicas(alloc, world, set, near)?)?;
     }
     Ok(())
 }
@@ -119,10 +116,8 @@ fn push_write_near(
     requires { IsEventualSet world.now set.0 }
     ensures { OnOk result (rows.new.items ≡ rows.old.items ++ map (λ m. has_replicas world.now set.0 (write_near world.now set.0 m)) (members_of world.now set.0)) }
 {
-    for member in world.members(set) {
-        let near = write_near(world, set, member);
-        rows.push(has_replicas(alloc, world, set, &near)?)?;
-    }
+    let near_sets = write_near_sets(alloc, world, set)?;
+    push_has_replicas(rows, alloc, world, set, near_sets.as_slice())?;
     Ok(())
 }
 
@@ -136,9 +131,11 @@ fn push_reading_rows(
     requires { IsEventualSet world.now set.0 }
     ensures { OnOk result (rows.new.items ≡ rows.old.items ++ reading_rows world.now set.0) }
 {
-    push_reads_somewhere(rows, alloc, world, set)?;
+    let near_sets = read_near_sets(alloc, world, set)?;
+    push_reads_somewhere(rows, alloc, world, near_sets.as_slice())?;
     push_reads_a_replica(rows, alloc, world, set)?;
-    push_read_near(rows, alloc, world, set)
+    push_has_replicas(rows, alloc, world, set, near_sets.as_slice())?;
+    Ok(())
 }
 
 /// Puts the mode's own rows at the end.
@@ -185,15 +182,40 @@ fn keeping(alloc: Global, world: &World) -> Result<Vec<(u16, u8)>, AllocError>
     Ok(vars)
 }
 
+/// Puts the rows of providers at the end, where the set asks for more than one.
+#[tactic(auto, using(placement_rows::proofs::ProviderLoops::made))]
+fn push_asked_rows(
+    rows: &mut Vec<Row>,
+    alloc: Global,
+    world: &World,
+    set: SetId,
+    firsts: &FirstCentres,
+) -> Result<(), AllocError>
+    requires set { IsEventualSet world.now set.0 }
+    requires found { AreFound world.now set.0 firsts.now }
+    ensures { OnOk result (rows.new.items ≡ rows.old.items ++ provider_rows world.now set.0 (length (mode_costs world.now set.0)) (keeping world.now)) }
+{
+    if !asks_providers(world, set) {
+        return Ok(());
+    }
+    let vars = keeping(alloc, world)?;
+    let first = first_provider(world, set);
+    push_provider_rows(rows, alloc, world, set, firsts, first, vars.as_slice())
+}
+
 /// All rows.
-pub(crate) fn set_rows(alloc: Global, world: &World, set: SetId) -> Result<Vec<Row>, AllocError>
-    requires { IsEventualSet world.now set.0 }
+pub(crate) fn set_rows(
+    alloc: Global,
+    world: &World,
+    set: SetId,
+    firsts: &FirstCentres,
+) -> Result<Vec<Row>, AllocError>
+    requires set { IsEventualSet world.now set.0 }
+    requires found { AreFound world.now set.0 firsts.now }
     ensures { IfOk result (λ rows. rows.items ≡ set_rows world.now set.0) }
 {
     let mut rows = Vec::with_capacity(alloc, most_rows(world, set))?;
     push_mode_rows(&mut rows, alloc, world, set)?;
-    let vars = keeping(alloc, world)?;
-    let first = first_provider(world, set);
-    push_provider_rows(&mut rows, alloc, world, set, first, vars.as_slice())?;
+    push_asked_rows(&mut rows, alloc, world, set, firsts)?;
     Ok(rows)
 }

@@ -5,7 +5,7 @@ ghost use Rattle.placement_relay.specs.Relay.{q};
 ghost use Rattle.placement_relay.specs.Programs.{mode_costs, set_costs};
 ghost use Rattle.placement_relay.specs.Laws.{IsEventualSet};
 
-use placement_rows::provider_variables;
+use placement_rows::{FirstCentres, provider_variables};
 use span_base::SetId;
 use workload::{Mode, World};
 
@@ -82,5 +82,6 @@ pub fn variable_count(world: &World, set: SetId) -> usize
     ensures count { result ≡ length (set_costs world.now set.0) }
     ensures few { result ≤ 2208 }
 {
-    usize::from(first_provider(world, set) + provider_variables(world, set))
+    let firsts = FirstCentres::find(world, set);
+    usize::from(first_provider(world, set) + provider_variables(world, set, &firsts))
 }

@@ -7,6 +7,7 @@ use Rattle.std.proofs.lemmas.List.Elements.{filter-append}
 use Rattle.span_base.specs.declared.dc_set.DcSet.{DcSet}
 use Rattle.span_base.specs.DcSet.{has, centres_of, centres_below, insert, no_centre as no_dc}
 use Rattle.span_base.proofs.Sets.{has-insert_same, has-insert_other, has-below, has-no_centre}
+use Rattle.placement_rows.specs.Centres.{set_of_centres}
 use Rattle.placement_rows.proofs.Sums.{filter-below, filter-range_agree, range-append}
 use Rattle.placement_rows.proofs.Loops.{fold_next_in, fold_next_out, kept_next_in, kept_next_out}
 
@@ -47,21 +48,18 @@ fold-lacks p s a (suc k) d not = elim (cases_Bool (p a)) [
       ∙ fold-lacks p s (a + 1) k d (λ low high is. not (omega arith) (omega arith) is)
 ]
 
--- the numbers below `n` that pass a test, as a set
-abbrev pub collected : (ℕ → Bool) → ℕ → DcSet
-collected p n = fold insert no_dc (filter p (range_with_len 0 n))
-
-pub has-collected : (p : ℕ → Bool) (n : ℕ) → n ≤ 16 → (d : ℕ) → d < n → has (collected p n) d ≡ p d
-has-collected p n few d low = elim (cases_Bool (p d)) [
+-- such a set has the numbers that pass
+pub has-set_of : (p : ℕ → Bool) (n : ℕ) → n ≤ 16 → (d : ℕ) → d < n → has (set_of_centres (filter p (range_with_len 0 n))) d ≡ p d
+has-set_of p n few d low = elim (cases_Bool (p d)) [
   | inl is_one ↦ fold-has p no_dc 0 n (omega arith) d (omega arith) (omega arith) is_one ∙ sym is_one
   | inr is_zero ↦ fold-lacks p no_dc 0 n d (λ from to is. cc) ∙ has-no_centre d ∙ sym is_zero
 ]
 
-pub collected-below : (p : ℕ → Bool) (n d : ℕ) → has (collected p n) d ≡ true → d < n
-collected-below p n d is = elim (cases_lt d n) [
+-- and no other
+pub set_of-below : (p : ℕ → Bool) (n d : ℕ) → has (set_of_centres (filter p (range_with_len 0 n))) d ≡ true → d < n
+set_of-below p n d is = elim (cases_lt d n) [
   | inl low ↦ low
-  | inr past ↦
-      let no : has (collected p n) d ≡ false = fold-lacks p no_dc 0 n d (λ from to e. omega arith) ∙ has-no_centre d in cc
+  | inr past ↦ let no : has (set_of_centres (filter p (range_with_len 0 n))) d ≡ false = fold-lacks p no_dc 0 n d (λ from to e. omega arith) ∙ has-no_centre d in cc
 ]
 
 -- the centres of a set that lies below a number of centres
@@ -75,12 +73,16 @@ centres_of-below s n few low =
     ∙ ap (λ ds. filter (has s) (range_with_len 0 n) ++ ds) (filter-below (has s) (0 + n) (16 - n) (λ d from to. false_from_ne_true (has s d) (λ e. let h = low d e in omega arith)))
     ∙ append-nil (filter (has s) (range_with_len 0 n))
 
-pub centres_of-collected : (p : ℕ → Bool) (n : ℕ) → n ≤ 16 → centres_of (collected p n) ≡ filter p (range_with_len 0 n)
-centres_of-collected p n few =
-    centres_of-below (collected p n) n few (collected-below p n)
-    ∙ filter-range_agree (has (collected p n)) p 0 n (λ d low high. has-collected p n few d (omega arith))
+pub centres_of-set_of : (p : ℕ → Bool) (n : ℕ) → n ≤ 16 → centres_of (set_of_centres (filter p (range_with_len 0 n))) ≡ filter p (range_with_len 0 n)
+centres_of-set_of p n few =
+    centres_of-below (set_of_centres (filter p (range_with_len 0 n))) n few (set_of-below p n)
+    ∙ filter-range_agree (has (set_of_centres (filter p (range_with_len 0 n)))) p 0 n (λ d low high. has-set_of p n few d (omega arith))
 
-pub ruleset collects = (fold_next_in, fold_next_out, centres_of-collected)
+-- the numbers of a range that are in such a set
+pub kept_of-set_of : (p : ℕ → Bool) (n : ℕ) → n ≤ 16 → filter (has (set_of_centres (filter p (range_with_len 0 n)))) (range_with_len 0 n) ≡ filter p (range_with_len 0 n)
+kept_of-set_of p n few = filter-range_agree (has (set_of_centres (filter p (range_with_len 0 n)))) p 0 n (λ d from to. has-set_of p n few d (omega arith))
+
+pub ruleset collects = (fold_next_in, fold_next_out, centres_of-set_of)
 
 -- what is made of the centres of a set, once all are passed
 pub entries-all : {X : Type 0} (f : ℕ → X) (s : DcSet) (d : ℕ) → 16 ≤ d → d ≤ 16 → map f (filter (has s) (range_with_len 0 d)) ≡ map f (centres_of s)

@@ -10,3 +10,5 @@ pub mod ProviderCounts
 pub mod ProviderRows
 pub mod Fits
 pub mod ProviderLoops
+pub mod FoundCentres
+pub mod NearCentres

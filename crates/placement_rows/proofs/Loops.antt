@@ -1,7 +1,7 @@
 -- Steps of loops over the centres and the members.
-use Rattle.std.proofs.Common.{◌≡◌, ℕ, zero, suc, ◌+◌, ◌<◌, ◌≤◌, Bool, true, false, cond, List, [], ◌∷◌, ◌++◌, length, get_or, take, map, refl, sym, ap, ◌∙◌, arith, add-one, pos, ◌-◌, Option, Some, None}
+use Rattle.std.proofs.Common.{◌≡◌, ℕ, zero, suc, ◌+◌, ◌<◌, ◌≤◌, Bool, true, false, cond, List, [], ◌∷◌, ◌++◌, length, get_or, take, map, replicate, refl, sym, ap, ◌∙◌, arith, add-one, pos, ◌-◌, Option, Some, None}
 use Rattle.std.specs.List.{filter, find, fold, flat_map, range_with_len, enumerate_from}
-use Rattle.std.proofs.lemmas.List.{append-nil, append_assoc, map-append, take_more, map_more}
+use Rattle.std.proofs.lemmas.List.{append-nil, append_assoc, map-append, take_more, map_more, replicate_more}
 use Rattle.std.proofs.lemmas.List.Sums.{fold_push}
 use Rattle.std.proofs.lemmas.List.Elements.{filter-append}
 use Rattle.std.proofs.lemmas.List.Concat.{flat_map-append}
@@ -60,6 +60,14 @@ kept_next_in f p d is = ap (map f) (filter_next_in p d is) ∙ map-append f (fil
 
 pub kept_next_out : {X : Type 0} (f : ℕ → X) (p : ℕ → Bool) (d : ℕ) → p d ≡ false → map f (filter p (range_with_len 0 (d + 1))) ≡ map f (filter p (range_with_len 0 d))
 kept_next_out f p d is = ap (map f) (filter_next_out p d is)
+
+pub ruleset pieces = (pieces_next, append_assoc)
+
+-- one copy more
+pub copy_next : {X : Type 0} (n : ℕ) (y : X) → replicate (n + 1) y ≡ replicate n y ++ y ∷ []
+copy_next n y = sym (replicate_more n y)
+
+pub ruleset copies = (copy_next, append_assoc)
 
 pub ruleset loops = (map_next, pieces_next, filter_next_in, filter_next_out, append_assoc)
 

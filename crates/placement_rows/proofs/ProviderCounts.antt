@@ -19,10 +19,10 @@ same_list-refl [] = refl
 same_list-refl (x ∷ xs) = and_from (x == x) (same_list xs xs) (eq-eqb x x refl) (same_list-refl xs)
 
 -- centres of one provider have the same others beside them
-same-any : (w : Lists) (a b : ℕ) (ds : List ℕ) → same_provider w a b ≡ true → list_any (same_provider w a) ds ≡ list_any (same_provider w b) ds
+pub same-any : (w : Lists) (a b : ℕ) (ds : List ℕ) → same_provider w a b ≡ true → list_any (same_provider w a) ds ≡ list_any (same_provider w b) ds
 same-any w a b ds is = ap (λ name. list_any (λ d. same_list name (centre_of w d).provider) ds) (same_text (centre_of w a).provider (centre_of w b).provider (sym is))
 
-same-sym : (w : Lists) (a b : ℕ) → same_provider w a b ≡ true → same_provider w b a ≡ true
+pub same-sym : (w : Lists) (a b : ℕ) → same_provider w a b ≡ true → same_provider w b a ≡ true
 same-sym w a b is =
     ap (λ name. same_list (centre_of w b).provider name) (same_text (centre_of w a).provider (centre_of w b).provider (sym is))
     ∙ same_list-refl (centre_of w b).provider

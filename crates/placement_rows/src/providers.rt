@@ -3,47 +3,25 @@ ghost use Rattle.std.specs.Prelude.{◌≡◌, ◌<◌, ◌≤◌, ◌++◌, if�
 ghost use Rattle.std.specs.List.{list_any};
 ghost use Rattle.span_base.specs.DcSet.{centres_of};
 ghost use Rattle.workload.specs.World.{centre_count};
-ghost use Rattle.slo_rules.specs.Rules.{lies_below, same_provider};
-ghost use Rattle.placement_rows.specs.Providers.{is_first_of_provider, providers, asks_providers, provider_costs, keeps_replica, provider_rows, provider_bits};
+ghost use Rattle.slo_rules.specs.Rules.{lies_below};
+ghost use Rattle.placement_rows.specs.Providers.{providers, asks_providers, provider_costs, provider_rows, provider_bits};
+ghost use Rattle.placement_rows.specs.FirstCentres.{AreFound, is_same, kept_by};
 
+use crate::first_centres::{FirstCentres, asks_providers};
 use crate::rows::{minus, plus};
 use span_base::{CENTRES, DcId, DcSet, Listed, SetId};
 use std::alloc::{AllocError, Global};
 use workload::World;
 use zero_one::Row;
 
-/// Whether two centres are of one provider.
-fn is_same_provider(world: &World, a: u8, b: u8) -> bool
-    requires a { a < centre_count world.now }
-    requires b { b < centre_count world.now }
-    ensures { result ≡ same_provider world.now a b }
-{
-    world.provider(DcId(a)) == world.provider(DcId(b))
-}
-
-/// Whether no centre before this one is of its provider.
-#[tactic(auto, using(crate::proofs::ProviderLoops::earlier))]
-fn is_first_of_provider(world: &World, dc: u8) -> bool
-    requires { dc < centre_count world.now }
-    ensures { result ≡ is_first_of_provider world.now dc }
-{
-    for d in 0..dc {
-        if is_same_provider(world, dc, d) {
-            return false;
-        }
-    }
-    true
-}
-
 /// Whether one of the replicas is in a centre of the provider with this first centre.
 #[tactic(auto, using(crate::proofs::ProviderLoops::among))]
-fn has_replica(world: &World, replicas: &DcSet, first_centre: u8) -> bool
-    requires first_centre { first_centre < centre_count world.now }
-    requires below { lies_below (centre_count world.now) replicas.now ≡ true }
-    ensures { result ≡ list_any (same_provider world.now first_centre) (centres_of replicas.now) }
+fn has_replica(firsts: &FirstCentres, replicas: &DcSet, first_centre: u8) -> bool
+    requires { first_centre < 16 }
+    ensures { result ≡ list_any (is_same firsts.now first_centre) (centres_of replicas.now) }
 {
     for d in 0..CENTRES {
-        if replicas.has(DcId(d)) && is_same_provider(world, first_centre, d) {
+        if replicas.has(DcId(d)) && firsts.is_same(first_centre, d) {
             return true;
         }
     }
@@ -55,19 +33,19 @@ fn has_replica(world: &World, replicas: &DcSet, first_centre: u8) -> bool
 #[tactic(auto, using(crate::proofs::ProviderLoops::items))]
 fn keeps_replica(
     alloc: Global,
-    world: &World,
+    firsts: &FirstCentres,
     keeping: &[(u16, u8)],
     var: u16,
     first_centre: u8,
 ) -> Result<Row, AllocError>
-    requires first_centre { first_centre < centre_count world.now }
+    requires first_centre { first_centre < 16 }
     requires few { length keeping.now ≤ 256 }
-    requires centres { All (λ k. k.1 < centre_count world.now) keeping.now }
-    ensures { IfOk result (λ row. row ≡ keeps_replica world.now keeping.now (var, first_centre)) }
+    requires centres { All (λ k. k.1 < 16) keeping.now }
+    ensures { IfOk result (λ row. row ≡ kept_by firsts.now keeping.now (var, first_centre)) }
 {
     let mut entries = Vec::with_capacity(alloc, keeping.len() + 1)?;
     for kept in keeping {
-        if is_same_provider(world, first_centre, kept.1) {
+        if firsts.is_same(first_centre, kept.1) {
             entries.push(plus(kept.0))?;
         }
     }
@@ -78,19 +56,12 @@ fn keeps_replica(
     })
 }
 
-/// Whether the set asks for more than one provider.
-fn asks_providers(world: &World, set: SetId) -> bool
-    requires { set.0 < length world.now.sets }
-    ensures { result ≡ asks_providers world.now set.0 }
-{
-    world.rule(set).providers > 1
-}
-
 /// How many variables of providers a set's program has, at most 16: none where the set asks for one
 /// provider.
 #[tactic(auto, using(crate::proofs::ProviderLoops::numbered))]
-pub fn provider_variables(world: &World, set: SetId) -> u16
-    requires { set.0 < length world.now.sets }
+pub fn provider_variables(world: &World, set: SetId, firsts: &FirstCentres) -> u16
+    requires known { set.0 < length world.now.sets }
+    requires found { AreFound world.now set.0 firsts.now }
     ensures count { result ≡ (if asks_providers world.now set.0 then length (providers world.now) else 0) }
     ensures few { result ≤ 16 }
 {
@@ -99,7 +70,7 @@ pub fn provider_variables(world: &World, set: SetId) -> u16
         return count;
     }
     for d in 0..world.centre_count() {
-        if is_first_of_provider(world, d) {
+        if firsts.is_first(d) {
             count += 1;
         }
     }
@@ -113,15 +84,17 @@ pub fn push_provider_costs(
     costs: &mut Vec<u128>,
     world: &World,
     set: SetId,
+    firsts: &FirstCentres,
 ) -> Result<(), AllocError>
-    requires { set.0 < length world.now.sets }
+    requires known { set.0 < length world.now.sets }
+    requires found { AreFound world.now set.0 firsts.now }
     ensures { OnOk result (costs.new.items ≡ costs.old.items ++ provider_costs world.now set.0) }
 {
     if !asks_providers(world, set) {
         return Ok(());
     }
     for d in 0..world.centre_count() {
-        if is_first_of_provider(world, d) {
+        if firsts.is_first(d) {
             costs.push(0)?;
         }
     }
@@ -135,9 +108,11 @@ pub fn push_provider_bits(
     bits: &mut Vec<bool>,
     world: &World,
     set: SetId,
+    firsts: &FirstCentres,
     replicas: &DcSet,
 ) -> Result<(), AllocError>
     requires known { set.0 < length world.now.sets }
+    requires found { AreFound world.now set.0 firsts.now }
     requires below { lies_below (centre_count world.now) replicas.now ≡ true }
     ensures { OnOk result (bits.new.items ≡ bits.old.items ++ provider_bits world.now set.0 (centres_of replicas.now)) }
 {
@@ -145,38 +120,38 @@ pub fn push_provider_bits(
         return Ok(());
     }
     for d in 0..world.centre_count() {
-        if is_first_of_provider(world, d) {
-            bits.push(has_replica(world, replicas, d))?;
+        if firsts.is_first(d) {
+            bits.push(has_replica(firsts, replicas, d))?;
         }
     }
     Ok(())
 }
 
-/// Puts the rows of providers at the end, whose variables begin with `first`: none where the set
-/// asks for one provider. Each variable that keeps a replica stands beside its centre.
+/// Puts the rows of providers at the end, whose variables begin with `first`. Each variable that
+/// keeps a replica stands beside its centre.
 #[tactic(auto, using(crate::proofs::ProviderLoops::numbered))]
 pub fn push_provider_rows(
     rows: &mut Vec<Row>,
     alloc: Global,
     world: &World,
     set: SetId,
+    firsts: &FirstCentres,
     first: u16,
     keeping: &[(u16, u8)],
 ) -> Result<(), AllocError>
     requires known { set.0 < length world.now.sets }
+    requires asked { asks_providers world.now set.0 ≡ true }
+    requires found { AreFound world.now set.0 firsts.now }
     requires first { first ≤ 4096 }
     requires few { length keeping.now ≤ 256 }
     requires centres { All (λ k. k.1 < centre_count world.now) keeping.now }
     ensures { OnOk result (rows.new.items ≡ rows.old.items ++ provider_rows world.now set.0 first keeping.now) }
 {
-    if !asks_providers(world, set) {
-        return Ok(());
-    }
     let mut var = first;
-    let mut sum = Vec::new(alloc);
+    let mut sum = Vec::with_capacity(alloc, usize::from(world.centre_count()))?;
     for d in 0..world.centre_count() {
-        if is_first_of_provider(world, d) {
-            rows.push(keeps_replica(alloc, world, keeping, var, d)?)?;
+        if firsts.is_first(d) {
+            rows.push(keeps_replica(alloc, firsts, keeping, var, d)?)?;
             sum.push(plus(var))?;
             var += 1;
         }

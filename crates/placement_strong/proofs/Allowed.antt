@@ -17,8 +17,9 @@ use Rattle.workload.specs.declared.rules.Mode.TheVariants as mode
 use Rattle.slo_rules.specs.declared.rules.Rule.{Rule}
 use Rattle.slo_rules.specs.declared.rules.Rule.TheVariants as rule
 use Rattle.slo_rules.specs.Rules.{or_else, unless, first_breach, is_read_near, is_write_near, has_mode, has_shape, lies_below, same_list, centres_asking, quorum_members, union_of, breach_of_read_set, breach_of_write_set, meets, breach_of_meeting, breach_of_write_meeting, breach_of_mode, breach_of_providers, providers_of, first_broken_rule, IsAllowed, code_of, mode_of}
+use Rattle.placement_rows.specs.Centres.{nobody}
 use Rattle.placement_rows.proofs.ProviderCounts.{same_list-refl}
-use Rattle.placement_strong.specs.Variables.{member_count, member_at, nobody}
+use Rattle.placement_strong.specs.Variables.{member_count, member_at}
 use Rattle.placement_strong.specs.Placed.{quorum_at, no_quorum}
 use Rattle.placement_strong.proofs.SetTests.{all_pass, all_pass-from, below_all, below_from}
 

@@ -13,11 +13,11 @@ use Rattle.workload.proofs.Worlds.{length-rows}
 use Rattle.slo_rules.specs.Cost.{policy_cost, stored_cost, gets_cost, quorum_puts_cost, quorum_cost}
 use Rattle.zero_one.specs.Rows.{bit_of}
 use Rattle.zero_one.specs.Program.{value_of}
-use Rattle.placement_rows.specs.Centres.{centres}
+use Rattle.placement_rows.specs.Centres.{centres, nobody}
 use Rattle.placement_rows.specs.Providers.{asks_providers, provider_costs, providers}
 use Rattle.placement_rows.proofs.Sums.{sum_by-add, sum_by-filter, sum_by-range_agree}
 use Rattle.placement_rows.proofs.Values.{value-append, value-nothing, value-block}
-use Rattle.placement_strong.specs.Variables.{member_count, members, member_at, nobody, pairs, g_var, w_var, storing_costs, reading_costs, writing_costs, meeting_costs, strong_costs}
+use Rattle.placement_strong.specs.Variables.{member_count, members, member_at, pairs, g_var, w_var, storing_costs, reading_costs, writing_costs, meeting_costs, strong_costs}
 use Rattle.placement_strong.specs.Programs.{set_costs}
 use Rattle.placement_strong.specs.Placed.{quorum_at, no_quorum}
 use Rattle.placement_strong.proofs.Allowed.{IsStrong}

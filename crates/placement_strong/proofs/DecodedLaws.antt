@@ -25,7 +25,7 @@ use Rattle.placement_strong.specs.Programs.{set_program}
 use Rattle.placement_strong.specs.Placed.{quorum_at, no_quorum, chosen_quorum, chosen_quorums, decoded}
 use Rattle.placement_strong.specs.Laws.{IsDecoded}
 use Rattle.placement_strong.proofs.Allowed.{IsServed, IsStrong, to_allowed}
-use Rattle.placement_strong.proofs.CentreSets.{has-set_of, set_of-below}
+use Rattle.placement_rows.proofs.Collected.{has-set_of, set_of-below}
 use Rattle.placement_strong.proofs.CostParts.{paid, read, written, value-parts, value-set, cost-parts}
 use Rattle.placement_strong.proofs.Counts.{count-range-le, count-set, set-most, sum-range-le}
 use Rattle.placement_strong.proofs.Keepers.{Stands, quorums-keep}

@@ -9,10 +9,10 @@ use Rattle.workload.specs.World.{Lists, IsDemandWithin, centre_count, price_of, 
 use Rattle.workload.specs.declared.rules.Demand.{Demand}
 use Rattle.workload.proofs.Worlds.{price_within, fare_within}
 use Rattle.slo_rules.specs.Cost.{stored_cost, get_cost, put_cost, gets_cost, quorum_puts_cost}
-use Rattle.placement_rows.specs.Centres.{centres}
+use Rattle.placement_rows.specs.Centres.{centres, nobody}
 use Rattle.placement_rows.specs.Providers.{providers, asks_providers}
 use Rattle.placement_rows.proofs.Each.{each-append, each-map, each-flat_map, each-range}
-use Rattle.placement_strong.specs.Variables.{member_count, members, member_at, nobody, pairs, storing_costs, reading_costs, writing_costs, meeting_costs, strong_costs}
+use Rattle.placement_strong.specs.Variables.{member_count, members, member_at, pairs, storing_costs, reading_costs, writing_costs, meeting_costs, strong_costs}
 use Rattle.placement_strong.specs.Programs.{set_costs}
 use Rattle.placement_strong.specs.Laws.{IsStrongSet}
 use Rattle.placement_strong.proofs.StrongSets.{set_within}

@@ -4,4 +4,3 @@ pub mod Programs
 pub mod Placed
 pub mod Laws
 pub mod Examples
-pub mod NearSets

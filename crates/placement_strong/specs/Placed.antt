@@ -1,15 +1,15 @@
 -- Policies as choices of a strong set's program, and back.
 use Rattle.std.specs.Prelude.{ℕ, Bool, ◌&&◌, List, [], ◌++◌, length, map, slice_index_or}
-use Rattle.std.specs.List.{flat_map, filter, fold}
+use Rattle.std.specs.List.{flat_map, filter}
 use Rattle.span_base.specs.declared.dc_set.DcSet.{DcSet}
-use Rattle.span_base.specs.DcSet.{has, insert, meet, centres_of, no_centre as no_dc}
+use Rattle.span_base.specs.DcSet.{has, meet, centres_of, no_centre as no_dc}
 use Rattle.span_base.specs.declared.policy.Policy.{Policy}
 use Rattle.span_base.specs.declared.policy.Policy.TheVariants.{Direct, Relay, Strong}
 use Rattle.span_base.specs.declared.policy.Quorum.{Quorum}
 use Rattle.workload.specs.World.{Lists, rule_of}
 use Rattle.zero_one.specs.Rows.{bit_of}
 use Rattle.slo_rules.specs.Rules.{is_read_near, is_write_near, union_of}
-use Rattle.placement_rows.specs.Centres.{centres}
+use Rattle.placement_rows.specs.Centres.{centres, set_of_centres}
 use Rattle.placement_rows.specs.Providers.{provider_bits}
 use Rattle.placement_strong.specs.Variables.{members, member_at, pairs, g_var, w_var}
 
@@ -44,10 +44,6 @@ unfoldable pub placed : Lists → ℕ → Policy → List Bool
 placed w set (Direct f replicas primary) = []
 placed w set (Relay f replicas primary parent) = []
 placed w set (Strong f replicas quorums) = strong_bits w replicas quorums ++ provider_bits w set (centres_of replicas)
-
--- the set of these centres
-abbrev pub set_of_centres : List ℕ → DcSet
-set_of_centres ds = fold insert no_dc ds
 
 -- the quorums of a member by a choice: what of its sets is near enough
 abbrev pub chosen_read : Lists → ℕ → List Bool → ℕ → DcSet

@@ -11,7 +11,7 @@ use Rattle.std.specs.List.{flat_map, range_with_len}
 use Rattle.workload.specs.World.{Lists, centre_count, rule_of, members_of}
 use Rattle.workload.specs.declared.rules.Demand.{Demand}
 use Rattle.slo_rules.specs.Cost.{stored_cost, gets_cost, quorum_puts_cost}
-use Rattle.placement_rows.specs.Centres.{centres}
+use Rattle.placement_rows.specs.Centres.{centres, nobody}
 
 -- how many members a set has, and their numbers
 abbrev pub member_count : Lists → ℕ → ℕ
@@ -19,10 +19,6 @@ member_count w set = length (members_of w set)
 
 abbrev pub members : Lists → ℕ → List ℕ
 members w set = range_with_len 0 (member_count w set)
-
--- what a place past the last member stands for
-abbrev pub nobody : Demand
-nobody = record { dc = record { 0 = 0 }; gets = 0; puts = 0 }
 
 -- the member of a number
 abbrev pub member_at : Lists → ℕ → ℕ → Demand

@@ -17,7 +17,7 @@ use zero_one::Row;
 
 /// Puts at the end, for each centre, that two variables are 1 where a later one is. The three are
 /// those of centre 0.
-#[tactic(auto, using(crate::proofs::Steps::pieces))]
+#[tactic(auto, using(placement_rows::proofs::Loops::pieces))]
 fn push_within(
     rows: &mut Vec<Row>,
     alloc: Global,
@@ -85,7 +85,7 @@ fn push_meets_within_pair(
 }
 
 /// Puts that at the end for a reader and every writer.
-#[tactic(auto, using(crate::proofs::Steps::pieces))]
+#[tactic(auto, using(placement_rows::proofs::Loops::pieces))]
 fn push_meets_within_of(
     rows: &mut Vec<Row>,
     alloc: Global,
@@ -104,7 +104,7 @@ fn push_meets_within_of(
 }
 
 /// Puts that at the end for every reader and writer.
-#[tactic(auto, using(crate::proofs::Steps::pieces))]
+#[tactic(auto, using(placement_rows::proofs::Loops::pieces))]
 pub(crate) fn push_meets_within(
     rows: &mut Vec<Row>,
     alloc: Global,
@@ -167,7 +167,7 @@ pub(crate) fn push_writes_meet_within(
 }
 
 /// Puts at the end that every centre of a read set keeps a replica.
-#[tactic(auto, using(crate::proofs::Steps::pieces))]
+#[tactic(auto, using(placement_rows::proofs::Loops::pieces))]
 pub(crate) fn push_reads_replica(
     rows: &mut Vec<Row>,
     alloc: Global,
@@ -184,7 +184,7 @@ pub(crate) fn push_reads_replica(
 }
 
 /// Puts at the end that every centre of a write set keeps a replica.
-#[tactic(auto, using(crate::proofs::Steps::pieces))]
+#[tactic(auto, using(placement_rows::proofs::Loops::pieces))]
 pub(crate) fn push_writes_replica(
     rows: &mut Vec<Row>,
     alloc: Global,

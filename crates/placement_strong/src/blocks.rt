@@ -1,12 +1,13 @@
 //! Where the blocks of variables of a strong set's program begin.
 ghost use Rattle.std.specs.Prelude.{◌≡◌, ◌+◌, ◌*◌, ◌<◌, ◌≤◌, length};
 ghost use Rattle.workload.specs.World.{centre_count};
+ghost use Rattle.placement_rows.specs.FirstCentres.{AreFound};
 ghost use Rattle.placement_strong.specs.Variables.{member_count, pairs, strong_costs, g_var, w_var, u_var, v_var};
 ghost use Rattle.placement_strong.specs.Programs.{set_costs};
 ghost use Rattle.placement_strong.specs.Laws.{IsStrongSet};
 
 use crate::members::{member_count, pair_count};
-use placement_rows::provider_variables;
+use placement_rows::{FirstCentres, provider_variables};
 use span_base::SetId;
 use workload::World;
 
@@ -79,11 +80,21 @@ pub(crate) fn first_provider(world: &World, set: SetId) -> u16
     n + 2 * k * n + meeting_variables(world, set)
 }
 
+/// How many variables the program has, whose first centres of providers are found.
+pub(crate) fn variables(world: &World, set: SetId, firsts: &FirstCentres) -> usize
+    requires strong { IsStrongSet world.now set.0 }
+    requires found { AreFound world.now set.0 firsts.now }
+    ensures variables { result ≡ length (set_costs world.now set.0) }
+    ensures few { result ≤ 1760 }
+{
+    usize::from(first_provider(world, set) + provider_variables(world, set, firsts))
+}
+
 /// How many variables the program of a strong set has, at most 1,760.
 pub fn variable_count(world: &World, set: SetId) -> usize
     requires { IsStrongSet world.now set.0 }
     ensures variables { result ≡ length (set_costs world.now set.0) }
     ensures few { result ≤ 1760 }
 {
-    usize::from(first_provider(world, set) + provider_variables(world, set))
+    variables(world, set, &FirstCentres::find(world, set))
 }

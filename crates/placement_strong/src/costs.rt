@@ -3,13 +3,14 @@ ghost use Rattle.std.specs.Prelude.{◌≡◌, ◌<◌, ◌++◌, map, replicate
 ghost use Rattle.workload.specs.World.{centre_count, rule_of};
 ghost use Rattle.slo_rules.specs.Cost.{gets_cost, quorum_puts_cost};
 ghost use Rattle.placement_rows.specs.Centres.{centres};
+ghost use Rattle.placement_rows.specs.FirstCentres.{AreFound};
 ghost use Rattle.placement_strong.specs.Variables.{member_count, member_at, storing_costs, reading_costs, writing_costs};
 ghost use Rattle.placement_strong.specs.Programs.{set_costs};
 ghost use Rattle.placement_strong.specs.Laws.{IsStrongSet};
 
-use crate::blocks::{meeting_variables, variable_count};
+use crate::blocks::{meeting_variables, variables};
 use crate::members::{member_at, member_count};
-use placement_rows::push_provider_costs;
+use placement_rows::{FirstCentres, push_provider_costs};
 use slo_rules::{gets_cost, quorum_puts_cost, stored_cost};
 use span_base::{DcId, SetId};
 use std::alloc::{AllocError, Global};
@@ -49,7 +50,7 @@ fn push_reading_of(
 }
 
 /// Puts what the gets of all members cost at the end.
-#[tactic(auto, using(crate::proofs::Steps::pieces))]
+#[tactic(auto, using(placement_rows::proofs::Loops::pieces))]
 fn push_reading(costs: &mut Vec<u128>, world: &World, set: SetId) -> Result<(), AllocError>
     requires { IsStrongSet world.now set.0 }
     ensures { OnOk result (costs.new.items ≡ costs.old.items ++ reading_costs world.now set.0) }
@@ -81,7 +82,7 @@ fn push_writing_of(
 }
 
 /// Puts what the puts of all members cost at the end.
-#[tactic(auto, using(crate::proofs::Steps::pieces))]
+#[tactic(auto, using(placement_rows::proofs::Loops::pieces))]
 fn push_writing(costs: &mut Vec<u128>, world: &World, set: SetId) -> Result<(), AllocError>
     requires { IsStrongSet world.now set.0 }
     ensures { OnOk result (costs.new.items ≡ costs.old.items ++ writing_costs world.now set.0) }
@@ -93,7 +94,7 @@ fn push_writing(costs: &mut Vec<u128>, world: &World, set: SetId) -> Result<(), 
 }
 
 /// Puts that many variables at the end that cost nothing.
-#[tactic(auto, using(crate::proofs::Steps::copies))]
+#[tactic(auto, using(placement_rows::proofs::Loops::copies))]
 fn push_nothing(costs: &mut Vec<u128>, count: u16) -> Result<(), AllocError>
     ensures { OnOk result (costs.new.items ≡ costs.old.items ++ replicate count 0) }
 {
@@ -104,15 +105,21 @@ fn push_nothing(costs: &mut Vec<u128>, count: u16) -> Result<(), AllocError>
 }
 
 /// The costs of all variables.
-pub(crate) fn set_costs(alloc: Global, world: &World, set: SetId) -> Result<Vec<u128>, AllocError>
-    requires { IsStrongSet world.now set.0 }
+pub(crate) fn set_costs(
+    alloc: Global,
+    world: &World,
+    set: SetId,
+    firsts: &FirstCentres,
+) -> Result<Vec<u128>, AllocError>
+    requires strong { IsStrongSet world.now set.0 }
+    requires found { AreFound world.now set.0 firsts.now }
     ensures { IfOk result (λ costs. costs.items ≡ set_costs world.now set.0) }
 {
-    let mut costs = Vec::with_capacity(alloc, variable_count(world, set))?;
+    let mut costs = Vec::with_capacity(alloc, variables(world, set, firsts))?;
     push_storing(&mut costs, world, set)?;
     push_reading(&mut costs, world, set)?;
     push_writing(&mut costs, world, set)?;
     push_nothing(&mut costs, meeting_variables(world, set))?;
-    push_provider_costs(&mut costs, world, set)?;
+    push_provider_costs(&mut costs, world, set, firsts)?;
     Ok(costs)
 }

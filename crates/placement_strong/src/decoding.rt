@@ -6,15 +6,15 @@ ghost use Rattle.slo_rules.specs.Rules.{IsAllowed, union_of};
 ghost use Rattle.slo_rules.specs.Cost.{policy_cost};
 ghost use Rattle.zero_one.specs.Rows.{bit_of};
 ghost use Rattle.zero_one.specs.Program.{IsFeasible, value_of};
-ghost use Rattle.placement_rows.specs.Centres.{centres};
+ghost use Rattle.placement_rows.specs.Centres.{centres, set_of_centres};
 ghost use Rattle.placement_strong.specs.Variables.{member_count, strong_costs};
 ghost use Rattle.placement_strong.specs.Programs.{set_program, set_costs};
-ghost use Rattle.placement_strong.specs.Placed.{set_of_centres, chosen_quorum, chosen_quorums, decoded};
+ghost use Rattle.placement_strong.specs.Placed.{chosen_quorum, chosen_quorums, decoded};
 ghost use Rattle.placement_strong.specs.Laws.{IsStrongSet};
 
 use crate::blocks::{first_read, first_write};
 use crate::members::{member_at, member_count};
-use crate::near::{read_near, write_near};
+use placement_rows::{read_near, write_near};
 use span_base::{DcId, DcSet, Listed, Policy, Quorum, SetId};
 use std::alloc::{AllocError, Global};
 use workload::World;
@@ -52,20 +52,16 @@ fn chosen_quorum(world: &World, set: SetId, x: &[bool], a: u16) -> Quorum
     ensures { result ≡ chosen_quorum world.now set.0 x.now a }
 {
     let _count = world.centre_count();
-    let dc = member_at(world, set, a).dc;
-    let read = chosen(
-        world,
-        x,
-        first_read(world, set, a),
-        &read_near(world, set, a),
-    );
-    let write = chosen(
-        world,
-        x,
-        first_write(world, set, a),
-        &write_near(world, set, a),
-    );
-    Quorum { dc, read, write }
+    let member = member_at(world, set, a);
+    let reading = read_near(world, set, &member);
+    let writing = write_near(world, set, &member);
+    let read = chosen(world, x, first_read(world, set, a), &reading);
+    let write = chosen(world, x, first_write(world, set, a), &writing);
+    Quorum {
+        dc: member.dc,
+        read,
+        write,
+    }
 }
 
 /// The quorums of all members.

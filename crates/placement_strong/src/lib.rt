@@ -8,7 +8,6 @@ mod decoding;
 mod encoding;
 mod laws;
 mod members;
-mod near;
 mod placing;
 mod quorum_rows;
 mod rows;

@@ -50,7 +50,7 @@ fn push_pairs_of(pairs: &mut Vec<(u16, u16)>, a: u16, count: u16) -> Result<(), 
 }
 
 /// The pairs of `count` members, the earlier one first, in lexicographic order.
-#[tactic(auto, using(crate::proofs::Steps::pieces))]
+#[tactic(auto, using(placement_rows::proofs::Loops::pieces))]
 pub(crate) fn pairs(alloc: Global, count: u16) -> Result<Vec<(u16, u16)>, AllocError>
     requires { count ≤ 8 }
     ensures pairs { IfOk result (λ list. list.items ≡ pairs count) }

@@ -8,9 +8,9 @@ ghost use Rattle.placement_strong.specs.Programs.{set_program, set_costs};
 ghost use Rattle.placement_strong.specs.Placed.{set_bits, write_meeting_bits, placed};
 ghost use Rattle.placement_strong.specs.Laws.{IsStrongSet};
 
-use crate::blocks::variable_count;
+use crate::blocks::variables;
 use crate::members::{member_count, pairs};
-use placement_rows::push_provider_bits;
+use placement_rows::{FirstCentres, push_provider_bits};
 use span_base::{DcId, DcSet, Policy, Quorum, SetId};
 use std::alloc::{AllocError, Global};
 use workload::World;
@@ -109,12 +109,13 @@ pub fn place(alloc: Global, world: &World, set: SetId, policy: &Policy) -> Resul
     };
     let quorums = members.as_slice();
     let pairs = pairs(alloc, member_count(world, set))?;
-    let mut bits = Vec::with_capacity(alloc, variable_count(world, set))?;
+    let firsts = FirstCentres::find(world, set);
+    let mut bits = Vec::with_capacity(alloc, variables(world, set, &firsts))?;
     push_set(&mut bits, world, replicas)?;
     push_reads(&mut bits, world, quorums)?;
     push_writes(&mut bits, world, quorums)?;
     push_meetings(&mut bits, world, quorums)?;
     push_write_meetings(&mut bits, world, quorums, pairs.as_slice())?;
-    push_provider_bits(&mut bits, world, set, replicas)?;
+    push_provider_bits(&mut bits, world, set, &firsts, replicas)?;
     Ok(Bits::from_vec(bits))
 }

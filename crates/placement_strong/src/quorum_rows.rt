@@ -4,17 +4,15 @@ ghost use Rattle.std.specs.Prelude.{◌≡◌, ◌+◌, ◌*◌, ◌<◌, ◌≤
 ghost use Rattle.std.specs.List.{flat_map, filter};
 ghost use Rattle.span_base.specs.DcSet.{has};
 ghost use Rattle.workload.specs.World.{rule_of};
-ghost use Rattle.placement_rows.specs.Centres.{centres, read_near};
+ghost use Rattle.placement_rows.specs.Centres.{centres, read_near, set_of_centres};
+ghost use Rattle.placement_rows.specs.NearSets.{read_near_sets, write_near_sets};
 ghost use Rattle.placement_rows.specs.Rows.{plus};
 ghost use Rattle.placement_strong.specs.Variables.{member_count, members, member_at, pairs};
 ghost use Rattle.placement_strong.specs.Rows.{meets, writes, writes_meet, numbered_pairs};
-ghost use Rattle.placement_strong.specs.Placed.{set_of_centres};
-ghost use Rattle.placement_strong.specs.NearSets.{write_near_sets};
 ghost use Rattle.placement_strong.specs.Laws.{IsStrongSet};
 
 use crate::blocks::{first_meeting, first_write, first_write_meeting};
 use crate::members::member_count;
-use crate::near::read_near;
 use placement_rows::plus;
 use span_base::{DcId, DcSet, Listed, SetId};
 use std::alloc::{AllocError, Global};
@@ -121,35 +119,39 @@ fn push_meets_of(
     world: &World,
     set: SetId,
     a: u16,
+    reading: &[DcSet],
     writing: &[DcSet],
 ) -> Result<(), AllocError>
     requires strong { IsStrongSet world.now set.0 }
     requires number { a < member_count world.now set.0 }
+    requires reading { reading.now ≡ read_near_sets world.now set.0 }
     requires writing { writing.now ≡ write_near_sets world.now set.0 }
     ensures { OnOk result (rows.new.items ≡ rows.old.items ++ map (meets world.now set.0 a) (members world.now set.0)) }
 {
-    let reading = read_near(world, set, a);
+    let near = &reading[usize::from(a)];
     for b in 0..member_count(world, set) {
-        rows.push(meets(alloc, world, set, a, b, &reading, writing)?)?;
+        rows.push(meets(alloc, world, set, a, b, near, writing)?)?;
     }
     Ok(())
 }
 
 /// Puts at the end that every read set meets every write set.
-#[tactic(auto, using(crate::proofs::Steps::pieces))]
+#[tactic(auto, using(placement_rows::proofs::Loops::pieces))]
 pub(crate) fn push_meets(
     rows: &mut Vec<Row>,
     alloc: Global,
     world: &World,
     set: SetId,
+    reading: &[DcSet],
     writing: &[DcSet],
 ) -> Result<(), AllocError>
     requires strong { IsStrongSet world.now set.0 }
+    requires reading { reading.now ≡ read_near_sets world.now set.0 }
     requires writing { writing.now ≡ write_near_sets world.now set.0 }
     ensures { OnOk result (rows.new.items ≡ rows.old.items ++ flat_map (λ a. map (meets world.now set.0 a) (members world.now set.0)) (members world.now set.0)) }
 {
     for a in 0..member_count(world, set) {
-        push_meets_of(rows, alloc, world, set, a, writing)?;
+        push_meets_of(rows, alloc, world, set, a, reading, writing)?;
     }
     Ok(())
 }

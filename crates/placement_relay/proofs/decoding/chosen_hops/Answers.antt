@@ -6,10 +6,9 @@ use Rattle.span_base.specs.declared.policy.Hop.{Hop}
 use Rattle.workload.specs.World.{members_of}
 use Rattle.workload.specs.declared.rules.Demand.{Demand}
 use Rattle.zero_one.specs.Rows.{bit_of}
-use Rattle.placement_rows.specs.Centres.{centres, numbered_members}
+use Rattle.placement_rows.specs.Centres.{centres, numbered_members, nobody}
 use Rattle.placement_relay.specs.Placed.{chosen_hop}
 use Rattle.placement_rows.proofs.Loops.{numbered_pieces_next}
-use Rattle.placement_relay.proofs.Members.{nobody}
 use Rattle.placement_relay.proofs.decoding.chosen_hops.Goals as goal
 
 pub loop-a-preserved : goal.loop-a-preserved

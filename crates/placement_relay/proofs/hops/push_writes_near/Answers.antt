@@ -2,10 +2,9 @@ use Rattle.std.proofs.Common.{◌≡◌, ◌++◌, ◌<◌, ◌∙◌, sym, ap, 
 use Rattle.std.proofs.lemmas.List.{take_all, append_assoc}
 use Rattle.std.proofs.lemmas.List.FromFn.{length-enumerate_from}
 use Rattle.workload.specs.World.{members_of}
-use Rattle.placement_rows.specs.Centres.{numbered_members}
+use Rattle.placement_rows.specs.Centres.{numbered_members, nobody}
 use Rattle.placement_relay.specs.Relay.{writes_near}
 use Rattle.placement_rows.proofs.Loops.{numbered_next}
-use Rattle.placement_relay.proofs.Members.{nobody}
 use Rattle.placement_relay.proofs.hops.push_writes_near.Goals as goal
 
 pub loop-a-preserved : goal.loop-a-preserved

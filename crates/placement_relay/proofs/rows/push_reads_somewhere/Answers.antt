@@ -1,31 +1,30 @@
 use Rattle.std.proofs.Common.{◌≡◌, ◌++◌, ◌<◌, ◌∙◌, sym, ap, arith, map, length, take, get_or, [], ◌∷◌}
+use Rattle.std.specs.List.{enumerate_from}
 use Rattle.std.proofs.lemmas.List.{take_all, append_assoc}
 use Rattle.std.proofs.lemmas.List.FromFn.{length-enumerate_from}
-use Rattle.workload.specs.World.{members_of}
-use Rattle.placement_rows.specs.Centres.{numbered_members}
-use Rattle.placement_relay.specs.Reading.{reads_somewhere}
+use Rattle.span_base.specs.DcSet.{centres_of, no_centre as no_dc}
+use Rattle.placement_rows.specs.Rows.{at_least}
 use Rattle.placement_rows.proofs.Loops.{numbered_next}
-use Rattle.placement_relay.proofs.Members.{nobody}
+use Rattle.placement_relay.specs.Reading.{h}
 use Rattle.placement_relay.proofs.rows.push_reads_somewhere.Goals as goal
 
 pub loop-a-preserved : goal.loop-a-preserved
 loop-a-preserved c =
-    let listed : c.members-member-items.result.now ≡ members_of c.args.world.now c.args.set.0 = cc in
     let w = c.args.world.now in
-    let members = members_of w c.args.set.0 in
-    let inside : c.loop-a.a < length members = omega (arith, c.loop-a-test.true, ap length listed) in
+    let sets = c.args.near_sets.now in
+    let a = c.loop-a.a in
     let rows = c.args.rows.now.items in
-    let before = map (reads_somewhere w c.args.set.0) (take c.loop-a.a (numbered_members w c.args.set.0)) in
-    let row = c.in_ok-reads_somewhere.field-0 in
+    let before = map (λ an. at_least 1 (h w an.0) (centres_of an.1)) (take a (enumerate_from 0 sets)) in
     c.in_ok-push.ensures.items
-    ∙ ap (λ rs. rs ++ row ∷ []) c.loop-a.invariant
-    ∙ append_assoc rows before (row ∷ [])
-    ∙ ap (λ r. rows ++ (before ++ r ∷ [])) (c.in_ok-reads_somewhere.ensures ∙ ap (λ ms. reads_somewhere w c.args.set.0 (c.loop-a.a, get_or ms c.loop-a.a nobody)) listed)
-    ∙ ap (λ rs. rows ++ rs) (sym (numbered_next (reads_somewhere w c.args.set.0) members c.loop-a.a nobody inside))
+    ∙ ap (λ rs. rs ++ c.in_ok-reads_somewhere.field-0 ∷ []) c.loop-a.invariant
+    ∙ append_assoc rows before (c.in_ok-reads_somewhere.field-0 ∷ [])
+    ∙ ap (λ r. rows ++ (before ++ r ∷ [])) c.in_ok-reads_somewhere.ensures
+    ∙ ap (λ rs. rows ++ rs) (sym (numbered_next (λ an. at_least 1 (h w an.0) (centres_of an.1)) sets a no_dc c.loop-a-test.true))
 
 pub returns : goal.returns
 returns c =
-    let listed : c.members-member-items.result.now ≡ members_of c.args.world.now c.args.set.0 = cc in
-    let same : length c.members-member-items.result.now ≡ length (members_of c.args.world.now c.args.set.0) = ap length listed in
-    c.loop-a.invariant ∙ ap (λ xs. c.args.rows.now.items ++ map (reads_somewhere c.args.world.now c.args.set.0) xs)
-    (take_all c.loop-a.a (numbered_members c.args.world.now c.args.set.0) (omega (arith, same, c.loop-a-test.false, length-enumerate_from 0 (members_of c.args.world.now c.args.set.0))))
+    let w = c.args.world.now in
+    let sets = c.args.near_sets.now in
+    c.loop-a.invariant
+    ∙ ap (λ xs. c.args.rows.now.items ++ map (λ an. at_least 1 (h w an.0) (centres_of an.1)) xs)
+    (take_all c.loop-a.a (enumerate_from 0 sets) (omega (arith, c.loop-a-test.false, length-enumerate_from 0 sets)))

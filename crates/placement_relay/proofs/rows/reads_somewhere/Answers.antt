@@ -1,5 +1,5 @@
 use Rattle.std.proofs.Common.{refl, arith}
-use Rattle.placement_rows.specs.Centres.{read_near}
+use Rattle.span_base.specs.DcSet.{centres_of}
 use Rattle.placement_relay.specs.Reading.{h}
 use Rattle.placement_rows.proofs.SumRows.{sum_is}
 use Rattle.placement_relay.proofs.rows.reads_somewhere.Goals as goal
@@ -7,4 +7,4 @@ use Rattle.placement_relay.proofs.rows.reads_somewhere.Goals as goal
 pub returns : goal.returns
 returns c =
     let w = c.args.world.now in
-    sum_is (h w c.args.a) c.first_read.result 1 1 1 _ (read_near w c.args.set.0 c.args.member.now) c.read_near-near.ensures (λ d. omega (arith, c.first_read.ensures.variable)) refl c.sum_row.result c.sum_row.ensures
+    sum_is (h w c.args.a) c.first_read.result 1 1 1 (centres_of c.args.near.now) (centres_of c.args.near.now) refl (λ d. omega (arith, c.first_read.ensures.variable)) refl c.sum_row.result c.sum_row.ensures

@@ -9,7 +9,8 @@ use Rattle.placement_rows.specs.Centres.{centres}
 use Rattle.placement_rows.specs.Rows.{plus}
 use Rattle.placement_strong.specs.Variables.{member_at, v_var}
 use Rattle.placement_strong.specs.Rows.{writes_meet, write_places}
-use Rattle.placement_strong.proofs.CentreSets.{common_places, write-sets-long, write-set-at}
+use Rattle.placement_rows.proofs.NearCentres.{write-sets-long, write-set-at}
+use Rattle.placement_strong.proofs.CentreSets.{common_places}
 use Rattle.placement_strong.proofs.MadeRows.{made-quorum_row}
 use Rattle.placement_strong.proofs.quorum_rows.writes_meet.Goals as goal
 

@@ -1,9 +1,8 @@
 use Rattle.std.proofs.Common.{◌≡◌, ◌++◌, ℕ, map}
-use Rattle.std.specs.List.{filter, range_with_len}
-use Rattle.workload.specs.World.{rule_of}
-use Rattle.slo_rules.specs.Rules.{is_read_near}
+use Rattle.std.specs.List.{range_with_len, flat_map}
+use Rattle.placement_rows.specs.Centres.{read_near}
 use Rattle.placement_strong.specs.Variables.{member_at, g_var}
 use Rattle.placement_strong.proofs.rows.push_read_keepers.Given as goal
 
-abbrev pub invariant-loop-d : goal.invariant-loop-d
-invariant-loop-d l = l.vars.items ≡ l.initial.vars.items ++ map (λ (d : ℕ). (g_var l.world l.fn.a d, d)) (filter (is_read_near l.world (rule_of l.world l.fn.set.0) (member_at l.world l.fn.set.0 l.fn.a).dc.0) (range_with_len 0 l.d))
+abbrev pub invariant-loop-a : goal.invariant-loop-a
+invariant-loop-a l = l.vars.items ≡ l.initial.vars.items ++ flat_map (λ a. map (λ (d : ℕ). (g_var l.world a d, d)) (read_near l.world l.set.0 (member_at l.world l.set.0 a))) (range_with_len 0 l.a)
