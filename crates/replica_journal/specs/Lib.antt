@@ -1,0 +1,6 @@
+pub mod Disk
+pub mod Calls
+pub mod Counting
+pub mod Memory
+pub mod Records
+pub mod Appended
