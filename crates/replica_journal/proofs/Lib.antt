@@ -5,3 +5,5 @@ pub mod Moments
 pub mod Journals
 pub mod Appending
 pub mod Appends
+pub mod Rows
+pub mod Reading

@@ -1,7 +1,7 @@
 -- What a piece that is put into bytes leaves.
 use Rattle.std.proofs.Common.{ℕ, ◌≡◌, ◌+◌, ◌-◌, ◌<◌, ◌≤◌, max, List, [], ◌∷◌, ◌++◌, length, take, drop, get_or, refl, sym, ◌∙◌, ap, arith, append_assoc, length-append, length-drop, take-append-drop}
 use Rattle.std.proofs.lemmas.List.{length-take, length_push, take_at, drop_at, drop-drop, drop_more}
-use Rattle.replica_journal.specs.Disk.{put, Torn}
+use Rattle.replica_journal.specs.Disk.{History, Wrote, Synced, put, bytes_of, Torn, IsImage, IsLawfulHistory}
 
 pub put_length : (bytes : List ℕ) (at : ℕ) (piece : List ℕ) → at ≤ length bytes → length (put bytes at piece) ≡ max (length bytes) (at + length piece)
 put_length bytes at piece within =
@@ -12,6 +12,34 @@ put_length bytes at piece within =
       length-take at bytes,
       length-drop (at + length piece) bytes,
     )
+
+-- a piece that was put into bytes might have been cut short just so
+torn_put : (bytes : List ℕ) (at size : ℕ) (landed : List ℕ) → at ≤ length bytes → length landed ≤ size → Torn at size bytes (put bytes at landed)
+torn_put bytes at size landed within fits =
+    let whole : put bytes at landed ≡ take at bytes ++ (landed ++ drop (at + length landed) bytes) = append_assoc (take at bytes) landed (drop (at + length landed) bytes) in
+    let front : length (take at bytes) ≡ at = omega (arith, length-take at bytes) in
+    let back : drop at (put bytes at landed) ≡ landed ++ drop (at + length landed) bytes = ap (drop at) whole ∙ drop_at (take at bytes) (landed ++ drop (at + length landed) bytes) at front in
+    let over : length landed + (size - length landed) ≡ size = omega arith in
+    record {
+      before = ap (take at) whole ∙ take_at (take at bytes) (landed ++ drop (at + length landed) bytes) at front;
+      after =
+          sym (drop-drop size at (put bytes at landed))
+          ∙ ap (drop size) back
+          ∙ ap (λ (n : ℕ). drop n (landed ++ drop (at + length landed) bytes)) (sym over)
+          ∙ sym (drop-drop (size - length landed) (length landed) (landed ++ drop (at + length landed) bytes))
+          ∙ ap (drop (size - length landed)) (drop_at landed (drop (at + length landed) bytes) (length landed) refl)
+          ∙ drop-drop (size - length landed) (at + length landed) bytes
+          ∙ ap (λ (n : ℕ). drop n bytes) (omega arith);
+      no_shorter = omega (arith, put_length bytes at landed within);
+      no_longer = omega (arith, put_length bytes at landed within);
+    }
+
+-- a crash may leave the disk as it reads
+pub reading_is_image : (history : History) → IsLawfulHistory history → IsImage history (bytes_of history)
+reading_is_image [] lawful = refl
+reading_is_image (Wrote at size landed ∷ history) lawful =
+    (bytes_of history, reading_is_image history lawful.2, torn_put (bytes_of history) at size landed lawful.0 lawful.1)
+reading_is_image (Synced ∷ history) lawful = refl
 
 module _ (front : List ℕ) (gate : ℕ) (rest : List ℕ) where
   split : front ++ gate ∷ rest ≡ (front ++ gate ∷ []) ++ rest

@@ -4,3 +4,4 @@ pub mod Counting
 pub mod Memory
 pub mod Records
 pub mod Appended
+pub mod AtGate

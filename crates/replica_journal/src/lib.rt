@@ -2,13 +2,16 @@
 //! it is answered, whatever moment the machine stops at.
 #![tactic(auto)]
 
-mod append;
 mod calls;
 mod disk;
+mod journal;
+pub mod laws;
 mod mem_disk;
+mod record;
 mod write;
 
 pub use disk::{Disk, Failed};
+pub use journal::append;
 pub use mem_disk::MemDisk;
 
 #[cfg(test)]

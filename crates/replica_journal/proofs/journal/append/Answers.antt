@@ -5,7 +5,7 @@ use Rattle.span_base.specs.declared.sink.DeviceFault.TheVariants as device
 use Rattle.replica_journal.specs.Disk.{History, Writes, Syncs}
 use Rattle.replica_journal.specs.Appended.{Appended}
 use Rattle.replica_journal.proofs.Appends.{first_fails, sync_fails, stage_told, second_fails, opened_told, last_fails, is_done}
-use Rattle.replica_journal.proofs.append.append.Goals as goal
+use Rattle.replica_journal.proofs.journal.append.Goals as goal
 
 pub returns-in_err-write_at-clause-appended : goal.returns-in_err-write_at-clause-appended
 returns-in_err-write_at-clause-appended g c keys before after messages message was now rest sound spelled =

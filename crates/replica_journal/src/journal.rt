@@ -11,7 +11,7 @@ use span_base::DeviceFault;
 /// Appends a record behind the closed gate at `gate`. `piece` is what stands behind the record's
 /// gate, and then a closed gate. The record is safe before its gate is opened, and its gate is
 /// before this answers.
-pub(crate) fn append<D: Disk>(disk: &mut D, gate: u64, piece: &[u8]) -> Result<(), DeviceFault>
+pub fn append<D: Disk>(disk: &mut D, gate: u64, piece: &[u8]) -> Result<(), DeviceFault>
     requires within { IsWithin (D.told disk.old) (gate + 1) }
     requires room { gate < 4294967295 }
 
@@ -24,6 +24,5 @@ pub(crate) fn append<D: Disk>(disk: &mut D, gate: u64, piece: &[u8]) -> Result<(
     disk.write_at(gate + 1, piece)?;
     disk.sync()?;
     disk.write_at(gate, &[1])?;
-    disk.sync()?;
-    Ok(())
+    Ok(disk.sync()?)
 }
