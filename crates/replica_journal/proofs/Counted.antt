@@ -81,3 +81,8 @@ uncounted plan = record {
   same = λ e. (refl, refl);
   calm = λ c. (refl, c);
 }
+
+-- one call after others that didn't fail
+pub counts_on : (f0 f1 f2 : ℕ) (c0 c1 c2 failed : Bool) → Counts f0 f1 c0 c1 false → Counts f1 f2 c1 c2 failed → Counts f0 f2 c0 c2 failed
+counts_on f0 f1 f2 c0 c1 c2 failed first next =
+    subst (λ (c : Bool). Counts f0 f2 c c2 failed) (first.same refl).1 (subst (λ (f : ℕ). Counts f f2 c1 c2 failed) (first.same refl).0 next)

@@ -7,3 +7,5 @@ pub mod Appending
 pub mod Appends
 pub mod Rows
 pub mod Reading
+pub mod Filling
+pub mod Finding

@@ -3,7 +3,7 @@ use Rattle.std.specs.Prelude.{ℕ, ◌≡◌, ◌+◌, ◌<◌, ◌≤◌, List,
 use Rattle.wire_msg.specs.declared.message.Message.{Message}
 use Rattle.wire_msg.specs.Frames.{frame_of}
 use Rattle.replica_journal.specs.declared.record.AtGate.{AtGate}
-use Rattle.replica_journal.specs.declared.record.AtGate.TheVariants.{Record, Closed, Short, Damaged}
+use Rattle.replica_journal.specs.declared.record.AtGate.TheVariants.{Record, Closed, Damaged}
 use Rattle.replica_journal.specs.Records.{IsRecord, IsSoundRecord, IsClosed, body_of}
 
 -- the frame is that of a message that a journal may hold, or of none
@@ -32,8 +32,9 @@ pub record IsUnsound (keys : ℕ) (bytes : List ℕ) : Type 0 where
   pub spelled : bytes ≡ 1 ∷ rest
   pub unsound : (more : List ℕ) → ¬ IsSoundRecord keys (rest ++ more)
 
-abbrev pub IsAtGate : ℕ → List ℕ → AtGate → Type 0
-IsAtGate keys bytes (Record message size) = IsRecordAt keys bytes message size
-IsAtGate keys bytes Closed = IsClosed bytes
-IsAtGate keys bytes Short = IsShort keys bytes
-IsAtGate keys bytes Damaged = IsUnsound keys bytes
+-- what stands at the gate that the bytes begin with, if they are enough to tell
+abbrev pub IsAtGate : ℕ → List ℕ → Option AtGate → Type 0
+IsAtGate keys bytes (Some (Record message size)) = IsRecordAt keys bytes message size
+IsAtGate keys bytes (Some Closed) = IsClosed bytes
+IsAtGate keys bytes (Some Damaged) = IsUnsound keys bytes
+IsAtGate keys bytes None = IsShort keys bytes

@@ -5,3 +5,5 @@ pub mod Memory
 pub mod Records
 pub mod Appended
 pub mod AtGate
+pub mod Windows
+pub mod Opening

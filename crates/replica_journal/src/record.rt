@@ -16,23 +16,26 @@ pub(crate) enum AtGate {
     Record { message: Message, size: usize },
     /// The journal's end.
     Closed,
-    /// An open gate, and too few bytes for a sound record behind it.
-    Short,
-    /// An open gate, and no sound record behind it, whatever bytes follow.
+    /// An open gate, and no sound record behind it.
     Damaged,
 }
 
 /// What stands at the gate that the bytes begin with, in the journal of a replica with so many
-/// keys. Of bytes that a disk still has more of, only 65,538 and fewer can be too short.
-pub(crate) fn read_record(alloc: Global, bytes: &[u8], keys: u16) -> Result<AtGate, AllocError>
+/// keys, whatever bytes follow. It is `None` where there are too few bytes to tell, which are
+/// 65,538 at most.
+pub(crate) fn read_record(
+    alloc: Global,
+    bytes: &[u8],
+    keys: u16,
+) -> Result<Option<AtGate>, AllocError>
     requires { 0 < length bytes.now }
     ensures { IfOk result (λ found. IsAtGate keys bytes.now found) }
 {
     if bytes[0] != 1 {
-        return Ok(AtGate::Closed);
+        return Ok(Some(AtGate::Closed));
     }
     if bytes.len() < 3 {
-        return Ok(AtGate::Short);
+        return Ok(None);
     }
     let (head, rest) = bytes.split_at(3);
     open_record(alloc, head[1], head[2], rest, keys)
@@ -45,20 +48,20 @@ fn open_record(
     low: u8,
     rest: &[u8],
     keys: u16,
-) -> Result<AtGate, AllocError>
+) -> Result<Option<AtGate>, AllocError>
     ensures { IfOk result (λ found. IsAtGate keys (1 ∷ high ∷ low ∷ rest.now) found) }
 {
     let len = usize::from(u16::from_be_bytes([high, low]));
     if rest.len() <= len {
-        return Ok(AtGate::Short);
+        return Ok(None);
     }
     let (frame, _) = rest.split_at(len);
     match read_frame(alloc, frame, keys)? {
-        Some(message) => Ok(AtGate::Record {
+        Some(message) => Ok(Some(AtGate::Record {
             message,
             size: 3 + len,
-        }),
-        None => Ok(AtGate::Damaged),
+        })),
+        None => Ok(Some(AtGate::Damaged)),
     }
 }
 

@@ -74,10 +74,10 @@ fn found(alloc: Global, bytes: &[u8]) -> Result<u8, AllocError>
     requires { 0 < length bytes.now }
 {
     Ok(match read_record(alloc, bytes, 6)? {
-        AtGate::Record { .. } => b'r',
-        AtGate::Closed => b'c',
-        AtGate::Short => b's',
-        AtGate::Damaged => b'd',
+        Some(AtGate::Record { .. }) => b'r',
+        Some(AtGate::Closed) => b'c',
+        Some(AtGate::Damaged) => b'd',
+        None => b's',
     })
 }
 

@@ -1,0 +1,35 @@
+use crate::disk::Failed;
+use std::alloc::AllocError;
+
+/// Why a journal isn't opened.
+#[derive(Clone, Copy, Debug, PartialEq, Eq)]
+pub enum OpenCause {
+    /// Memory ran out.
+    NoMemory(AllocError),
+    /// The disk failed.
+    DiskFault,
+    /// No sound record follows the open gate at this place, counted from 0.
+    Damaged { at: u64 },
+}
+
+impl From<AllocError> for OpenCause {
+    ghost use Rattle.std.specs.Prelude.{◌≡◌};
+    ghost use Rattle.replica_journal.specs.declared.open_fault.OpenCause.TheVariants.{NoMemory};
+
+    ghost from_gives = { λ error cause. cause ≡ NoMemory error };
+
+    fn from(error: AllocError) -> OpenCause {
+        OpenCause::NoMemory(error)
+    }
+}
+
+impl From<Failed> for OpenCause {
+    ghost use Rattle.std.specs.Prelude.{◌≡◌};
+    ghost use Rattle.replica_journal.specs.declared.open_fault.OpenCause.TheVariants.{DiskFault};
+
+    ghost from_gives = { λ _ cause. cause ≡ DiskFault };
+
+    fn from(_: Failed) -> OpenCause {
+        OpenCause::DiskFault
+    }
+}
