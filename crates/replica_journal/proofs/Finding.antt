@@ -1,6 +1,6 @@
 -- What a window says of a gate is so of the disk.
 use Rattle.std.proofs.Common.{ℕ, ◌≡◌, ◌+◌, ◌-◌, ◌<◌, ◌≤◌, List, [], ◌∷◌, ◌++◌, length, take, drop, Option, Some, None, refl, sym, ◌∙◌, ap, subst, arith, append_assoc, length-append, length-drop, take-append-drop}
-use Rattle.std.specs.Prelude.{MatchOption}
+use Rattle.std.specs.Prelude.{MatchOption, IfSome}
 use Rattle.std.proofs.lemmas.List.{length-take, take_all, drop-take, drop-append-le, drop-drop, drop_all, append-nil}
 use Rattle.replica_journal.specs.declared.record.AtGate.{AtGate}
 use Rattle.replica_journal.specs.declared.record.AtGate.TheVariants.{Record, Closed, Damaged}
@@ -8,7 +8,7 @@ use Rattle.replica_journal.specs.declared.window.Window.{Window}
 use Rattle.replica_journal.specs.Disk.{History, bytes_of}
 use Rattle.replica_journal.specs.Records.{IsClosed, body_of}
 use Rattle.replica_journal.specs.AtGate.{IsAtGate, IsShort}
-use Rattle.replica_journal.specs.Windows.{HasFront, HasFrontOf, IsWindow, IsInside, IsFound, IsFoundAt}
+use Rattle.replica_journal.specs.Windows.{HasFront, HasFrontOf, IsWindow, IsInside, IsFound, IsFoundAt, IsSoundFound}
 
 closed_more : (window more : List ℕ) → IsClosed window → IsClosed (window ++ more)
 closed_more [] more closed = absurd closed
@@ -90,3 +90,10 @@ looked (Some history) keys window gate start None is here within at = λ same in
     subst (λ (p : ℕ). IsFound keys (drop p (bytes_of history)) Damaged) (ap (λ (n : ℕ). window.at + n) (sym first) ∙ sym here)
     (short_in keys (bytes_of history) window.bytes.items window.at window.len is.front (omega (arith, is.size, is.within)) (omega (arith, is.size))
     (subst (λ (n : ℕ). IsShort keys (take (window.len - n) (drop n window.bytes.items))) first at))
+
+-- a record that the window has is sound, and takes some bytes
+pub sound_found : (keys : ℕ) (window : List ℕ) (found : Option AtGate) → IsAtGate keys window found → IfSome found (λ at. IsSoundFound keys at)
+sound_found keys window None at = tt
+sound_found keys window (Some (Record message size)) at = (at.sound, omega (arith, at.takes))
+sound_found keys window (Some Closed) at = tt
+sound_found keys window (Some Damaged) at = tt

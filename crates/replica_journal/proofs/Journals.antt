@@ -27,7 +27,7 @@ records_length messages message =
       length-append (body_of message) [],
     )
 
-all_push : (P : Message → Type 0) (messages : List Message) (message : Message) → AllByRecursion P messages → P message → AllByRecursion P (messages ++ message ∷ [])
+pub all_push : (P : Message → Type 0) (messages : List Message) (message : Message) → AllByRecursion P messages → P message → AllByRecursion P (messages ++ message ∷ [])
 all_push P [] message all holds = (holds, tt)
 all_push P (first ∷ messages) message all holds = (all.0, all_push P messages message all.1 holds)
 

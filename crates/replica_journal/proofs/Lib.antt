@@ -9,3 +9,7 @@ pub mod Rows
 pub mod Reading
 pub mod Filling
 pub mod Finding
+pub mod Replays
+pub mod Begins
+pub mod Opens
+pub mod Soundness

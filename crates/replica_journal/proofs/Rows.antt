@@ -71,7 +71,7 @@ rows keys (a ∷ xs) (b ∷ ys) r s same cr cs sa sb =
     ap (λ (m : Message). m ∷ xs) first.0 ∙ ap (λ (ms : List Message). b ∷ ms) (rows keys xs ys r s first.1 cr cs sa.1 sb.1)
 
 -- an image of at most one byte has no place for a record
-none_in : (keys : ℕ) (image : List ℕ) (messages : List Message) → length image ≤ 1 → IsJournal keys image messages → messages ≡ []
+pub none_in : (keys : ℕ) (image : List ℕ) (messages : List Message) → length image ≤ 1 → IsJournal keys image messages → messages ≡ []
 none_in keys image [] short journal = refl
 none_in keys image (m ∷ ms) short journal = absurd (omega (
   arith,

@@ -7,3 +7,7 @@ pub mod Appended
 pub mod AtGate
 pub mod Windows
 pub mod Opening
+pub mod Replaying
+pub mod Causes
+pub mod Beginning
+pub mod Opened

@@ -10,7 +10,7 @@ use Rattle.wire_msg.specs.Laws.{FitsBytes}
 use Rattle.wire_msg.specs.Sizes.{frame_size}
 use Rattle.replica_core.specs.Rule.{State, opening_state, request_key, step}
 use Rattle.replica_core.specs.Taking.{IsLogged}
-use Rattle.replica_journal.specs.Disk.{History, bytes_of, IsImage}
+use Rattle.replica_journal.specs.Disk.{History, bytes_of, IsImage, IsLawfulHistory}
 
 -- a message that the journal of a replica with so many keys may hold
 pub record IsRecord (keys : ℕ) (message : Message) : Type 0 where
@@ -81,3 +81,8 @@ pub record IsAtRest (keys : ℕ) (history : History) (place : ℕ) (messages : L
 -- an image holds the records of these messages, with one more message or without it
 abbrev pub IsBeforeOrAfter : ℕ → List Message → Message → List ℕ → Type 0
 IsBeforeOrAfter keys messages message image = HasRecords keys image messages ⊎ HasRecords keys image (messages ++ message ∷ [])
+
+-- over none of the disk's images is an opening with so many keys refused as damaged: each holds a row of records
+pub record IsSoundDisk (keys : ℕ) (history : History) : Type 0 where
+  pub lawful : IsLawfulHistory history
+  pub images : (image : List ℕ) → IsImage history image → (messages : List Message) × HasRecords keys image messages

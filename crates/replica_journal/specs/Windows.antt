@@ -5,7 +5,7 @@ use Rattle.replica_journal.specs.declared.record.AtGate.{AtGate}
 use Rattle.replica_journal.specs.declared.record.AtGate.TheVariants.{Record, Closed, Damaged}
 use Rattle.replica_journal.specs.declared.window.Window.{Window}
 use Rattle.replica_journal.specs.Disk.{History, bytes_of}
-use Rattle.replica_journal.specs.Records.{IsClosed, IsSoundRecord}
+use Rattle.replica_journal.specs.Records.{IsClosed, IsRecord, IsSoundRecord}
 use Rattle.replica_journal.specs.AtGate.{IsRecordAt}
 
 -- the buffer's first bytes are those of the file from this place on; they fill it, or are the file's last
@@ -50,3 +50,9 @@ pub record IsWindow (told : Option History) (window : Window) : Type 0 where
   pub size : length window.bytes.items ≡ 131072
   pub within : window.len ≤ 131072
   pub front : HasFrontOf told window.at window.bytes.items window.len
+
+-- a record that was found is sound, and takes some bytes
+abbrev pub IsSoundFound : ℕ → AtGate → Type 0
+IsSoundFound keys (Record message size) = IsRecord keys message × (1 ≤ size)
+IsSoundFound keys Closed = ⊤
+IsSoundFound keys Damaged = ⊤

@@ -2,13 +2,16 @@
 //! it is answered, whatever moment the machine stops at.
 #![tactic(auto)]
 
+mod beginning;
 mod calls;
 mod disk;
 mod journal;
 pub mod laws;
 mod mem_disk;
 mod open_fault;
+mod opening;
 mod record;
+mod replay;
 mod window;
 mod write;
 
@@ -16,6 +19,8 @@ pub use disk::{Disk, Failed};
 pub use journal::append;
 pub use mem_disk::MemDisk;
 pub use open_fault::OpenCause;
+pub use opening::{Opened, open_journal};
+pub use replay::Place;
 
 #[cfg(test)]
 mod tests;

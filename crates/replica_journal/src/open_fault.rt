@@ -1,4 +1,5 @@
 use crate::disk::Failed;
+use span_base::DeviceFault;
 use std::alloc::AllocError;
 
 /// Why a journal isn't opened.
@@ -31,5 +32,19 @@ impl From<Failed> for OpenCause {
 
     fn from(_: Failed) -> OpenCause {
         OpenCause::DiskFault
+    }
+}
+
+impl From<DeviceFault> for OpenCause {
+    ghost use Rattle.std.specs.Prelude.{◌≡◌};
+    ghost use Rattle.replica_journal.specs.Causes.{cause_of};
+
+    ghost from_gives = { λ fault cause. cause ≡ cause_of fault };
+
+    fn from(fault: DeviceFault) -> OpenCause {
+        match fault {
+            DeviceFault::Failed => OpenCause::DiskFault,
+            DeviceFault::NoMemory => OpenCause::NoMemory(AllocError),
+        }
     }
 }

@@ -1,10 +1,10 @@
 //! A disk's bytes are read in pieces, from one record to the next.
 
-ghost use Rattle.std.specs.Prelude.{◌≡◌, ◌≤◌, ℕ, Option, length, IfOk, OnOk, IsErrOf, MatchOption, is_err};
+ghost use Rattle.std.specs.Prelude.{◌≡◌, ◌≤◌, ℕ, Option, length, IfOk, IfSome, OnOk, IsErrOf, MatchOption, is_err};
 ghost use Rattle.replica_journal.specs.Disk.{History};
 ghost use Rattle.replica_journal.specs.Counting.{Counts};
 ghost use Rattle.replica_journal.specs.Opening.{open_failed};
-ghost use Rattle.replica_journal.specs.Windows.{Fills, IsWindow, IsInside, IsFoundAt};
+ghost use Rattle.replica_journal.specs.Windows.{Fills, IsWindow, IsInside, IsFoundAt, IsSoundFound};
 
 use crate::disk::{Disk, Failed};
 use crate::open_fault::OpenCause;
@@ -26,15 +26,20 @@ pub(crate) struct Window {
 }
 
 impl Window {
-    /// A window of which nothing is read.
-    pub(crate) fn make(alloc: Global) -> Result<Window, AllocError>
-        ensures { IfOk result (λ window. (length window.bytes.items ≡ 131072) × (window.at ≡ 0) × (window.len ≡ 0)) }
+    /// A window at the disk's beginning.
+    pub(crate) fn open<D: Disk>(alloc: Global, disk: &mut D) -> Result<Window, OpenCause>
+        ensures window { IfOk result (λ window. IsWindow (D.told disk.new) window × (window.at ≡ 0)) }
+        ensures stays { D.told disk.new ≡ D.told disk.old }
+        ensures counts { Counts (D.faults disk.old) (D.faults disk.new) (D.calm disk.old) (D.calm disk.new) (open_failed result) }
+        ensures undamaged { (at : ℕ) → IsErrOf result (OpenCause.Damaged at) → ⊥ }
     {
-        Ok(Window {
+        let mut window = Window {
             bytes: vec![in alloc; 0; SIZE]?,
             at: 0,
             len: 0,
-        })
+        };
+        window.read(disk, 0)?;
+        Ok(window)
     }
 
     /// Reads the bytes from a place on.
@@ -57,7 +62,8 @@ impl Window {
         requires from { self.now.at ≤ gate }
         requires size { length self.now.bytes.items ≡ 131072 }
         requires within { self.now.len ≤ 131072 }
-        ensures { (told : Option History) → IsWindow told self.now → IfOk result (λ found. MatchOption found (self.now.at ≡ gate → IsInside told gate → IsFoundAt told keys gate AtGate.Damaged) (λ found. IsFoundAt told keys gate found)) }
+        ensures sound { IfOk result (λ found. IfSome found (λ found. IsSoundFound keys found)) }
+        ensures found { (told : Option History) → IsWindow told self.now → IfOk result (λ found. MatchOption found (self.now.at ≡ gate → IsInside told gate → IsFoundAt told keys gate AtGate.Damaged) (λ found. IsFoundAt told keys gate found)) }
     {
         let start = gate - self.at;
         if start >= self.len as u64 {
@@ -79,6 +85,7 @@ impl Window {
         requires from { self.old.at ≤ gate }
         requires place { gate ≤ 9223372036854775807 }
         requires inside { IsInside (D.told disk.old) gate }
+        ensures sound { IfOk result (λ found. IsSoundFound keys found) }
         ensures found { IfOk result (λ found. IsFoundAt (D.told disk.old) keys gate found) }
         ensures window { OnOk result (IsWindow (D.told disk.new) self.new) }
         ensures from { OnOk result (self.new.at ≤ gate) }
