@@ -81,6 +81,13 @@ fn found(alloc: Global, bytes: &[u8]) -> Result<u8, AllocError>
     })
 }
 
+/// Turns over the first bit of the byte at this place.
+fn turn_over(bytes: &mut [u8], place: usize) {
+    if let Some(byte) = bytes.get_mut(place) {
+        *byte ^= 128;
+    }
+}
+
 #[test]
 fn a_record_is_read_whole_or_not_at_all(rt: HostRuntime) -> Result<(), Fail> {
     let alloc = rt.alloc();
@@ -103,8 +110,94 @@ fn a_record_is_read_whole_or_not_at_all(rt: HostRuntime) -> Result<(), Fail> {
     ];
     for (place, told) in cases {
         let mut record = RECORD;
-        record[place] ^= 128;
+        turn_over(&mut record, place);
         assert_eq!(rt; found(alloc, &record)?, told, "{place}");
     }
+    Ok(())
+}
+
+/// A disk with these bytes, all safe, of which the next call of this number fails, none for 0.
+fn holding(alloc: Global, bytes: &[u8], call: u64) -> Result<MemDisk, DeviceFault> {
+    let mut disk = MemDisk::make(alloc, Vec::new(alloc));
+    disk.write_at(0, bytes)?;
+    disk.sync()?;
+    if call > 0 {
+        disk.fail_in(call);
+    }
+    Ok(disk)
+}
+
+/// The end of the journal that these bytes are, and how many records it has.
+fn opened(
+    alloc: Global,
+    bytes: &[u8],
+    call: u64,
+) -> Result<Result<(u64, u64), OpenCause>, DeviceFault> {
+    let mut disk = holding(alloc, bytes, call)?;
+    Ok(match open_journal(alloc, &mut disk, 5, 6) {
+        Ok(Opened { place, .. }) => Ok((place.gate, place.records)),
+        Err(cause) => Err(cause),
+    })
+}
+
+/// Two records, and the gate behind them.
+fn two_records(alloc: Global) -> Result<Vec<u8>, AllocError>
+    ensures { IfOk result (λ bytes. length bytes.items ≡ 43) }
+{
+    let mut bytes = Vec::new(alloc);
+    bytes.extend_from_slice(&RECORD[..21])?;
+    bytes.extend_from_slice(&RECORD)?;
+    Ok(bytes)
+}
+
+#[test]
+fn a_front_of_a_journal_is_told_by_its_place(rt: HostRuntime) -> Result<(), Fail> {
+    let alloc = rt.alloc();
+    let journal = two_records(alloc)?;
+    for len in 0..43 {
+        let told = match len {
+            0 | 1 => Ok((0, 0)),
+            2..22 => Err(OpenCause::Damaged { at: 0 }),
+            _ => Err(OpenCause::Damaged { at: 21 }),
+        };
+        assert_eq!(rt; opened(alloc, &journal[..len], 0)?, told, "{len}");
+    }
+    Ok(())
+}
+
+#[test]
+fn damage_is_told_by_its_place(rt: HostRuntime) -> Result<(), Fail> {
+    let alloc = rt.alloc();
+    let damaged = Err(OpenCause::Damaged { at: 21 });
+    // The first bit of a byte of the second record is turned over: of its gate, its length, its
+    // kind, its phase, its key and the gate behind it.
+    let cases = [
+        (21, Ok((21, 1))),
+        (22, damaged),
+        (23, damaged),
+        (24, damaged),
+        (35, Ok((42, 2))),
+        (36, damaged),
+        (42, Ok((42, 2))),
+    ];
+    for (place, told) in cases {
+        let mut journal = two_records(alloc)?;
+        turn_over(journal.as_mut_slice(), place);
+        assert_eq!(rt; opened(alloc, &journal, 0)?, told, "{place}");
+    }
+    Ok(())
+}
+
+#[test]
+fn an_opening_fails_with_its_disk(rt: HostRuntime) -> Result<(), Fail> {
+    // It syncs, asks for the length, writes the gate, syncs, reads the gate and reads the end.
+    for call in 1..7 {
+        assert_eq!(rt;
+            opened(rt.alloc(), &[], call)?,
+            Err(OpenCause::DiskFault),
+            "{call}"
+        );
+    }
+    assert_eq!(rt; opened(rt.alloc(), &[], 7)?, Ok((0, 0)));
     Ok(())
 }
