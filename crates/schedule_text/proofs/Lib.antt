@@ -1,0 +1,11 @@
+mod Cuts
+mod Entries
+mod Pieced
+mod Distinct
+mod TablesRead
+mod Reading
+mod Read
+mod SoundHeaders
+mod Publishing
+mod Happening
+mod Worked

@@ -1,0 +1,13 @@
+pub mod Flaws
+pub mod Words
+pub mod Pieces
+pub mod Left
+pub mod Numbers
+pub mod Policies
+pub mod Headers
+pub mod Tables
+pub mod Events
+pub mod Schedules
+pub mod Given
+pub mod Rows
+pub mod Laws
