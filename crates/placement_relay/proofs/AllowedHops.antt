@@ -1,5 +1,5 @@
 -- The hops of an allowed relay policy are its members', from centres to centres.
-use Rattle.std.proofs.Common.{◌≡◌, ℕ, ◌<◌, Bool, true, ◌==◌, List, [], ◌∷◌, length, get_or, map, refl, sym, ap, subst, arith}
+use Rattle.std.proofs.Common.{◌≡◌, ℕ, ◌<◌, true, ◌==◌, List, [], ◌∷◌, get_or, map, refl, sym, subst}
 use Rattle.std.specs.Prelude.{◌≢◌}
 use Rattle.std.specs.List.{All, AllPairs, AllByRecursion, list_any}
 use Rattle.std.proofs.lemmas.Bool.{eq-eqb}
@@ -13,7 +13,7 @@ use Rattle.span_base.specs.declared.policy.Near.{Near}
 use Rattle.span_base.specs.declared.policy.Hop.{Hop}
 use Rattle.workload.specs.World.{Lists, centre_count, members_of}
 use Rattle.slo_rules.specs.Rules.{IsAllowed, centres_asking, hops_due}
-use Rattle.placement_rows.proofs.Each.{each-map, each-map_back, each-flat_map}
+use Rattle.placement_rows.proofs.Each.{each-map_back, each-flat_map}
 use Rattle.placement_relay.specs.Laws.{IsEventualSet}
 use Rattle.placement_relay.specs.HopPlaces.{IsHopOf}
 use Rattle.placement_relay.proofs.Allowed.{IsRelay, ends_of, each-both, relay-from}

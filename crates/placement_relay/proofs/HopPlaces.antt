@@ -1,20 +1,19 @@
 -- The bits of hops with one hop more: the bit at the hop's place is 1 too.
 use Rattle.std.proofs.Common.{◌≡◌, ℕ, zero, suc, ◌+◌, ◌-◌, ◌*◌, ◌<◌, ◌≤◌, inl, inr, Bool, true, false, ◌&&◌, ◌||◌, ◌==◌, List, [], ◌∷◌, ◌++◌, length, get_or, set, take, map, replicate, refl, sym, ap, subst, ◌∙◌, arith}
 use Rattle.std.specs.Prelude.{◌≢◌}
-use Rattle.std.specs.List.{All, AllPairs, AllByRecursion, flat_map, list_any, range_with_len}
+use Rattle.std.specs.List.{AllPairs, flat_map, list_any, range_with_len}
 use Rattle.std.proofs.Math.Bool.{or-false}
 use Rattle.std.proofs.lemmas.Bool.{cases_lt, cases_order, eq-eqb, eqb-true, ne_eqb}
 use Rattle.std.proofs.lemmas.Nat.{mul-le}
 use Rattle.std.proofs.lemmas.Grind.{get_or-set_at}
 use Rattle.std.proofs.lemmas.List.{get_or-map, get_or-set_other, length-map, set-append_left, set-append_right, replicate-append-replicate, take_more}
-use Rattle.std.proofs.lemmas.List.Elements.{All-from_recursion, recursion_from_All}
-use Rattle.std.proofs.lemmas.List.Folds.{list_any-append, list_any_at}
+use Rattle.std.proofs.lemmas.List.Folds.{list_any-append}
 use Rattle.std.proofs.lemmas.List.FromFn.{length-range_with_len, get_or-range_with_len, length-map-range_with_len}
 use Rattle.span_base.specs.declared.policy.Hop.{Hop}
 use Rattle.workload.specs.World.{Lists, centre_count, members_of}
 use Rattle.workload.specs.declared.rules.Demand.{Demand}
 use Rattle.slo_rules.specs.Rules.{centres_asking}
-use Rattle.placement_rows.specs.Centres.{centres, nobody}
+use Rattle.placement_rows.specs.Centres.{nobody}
 use Rattle.placement_rows.proofs.Pieces.{length-square, length-pieces}
 use Rattle.placement_relay.specs.Laws.{IsEventualSet}
 use Rattle.placement_relay.proofs.Members.{set_within}

@@ -7,7 +7,6 @@ use Rattle.std.proofs.lemmas.List.{length-append}
 use Rattle.std.proofs.lemmas.List.FromFn.{length-map-range_with_len}
 use Rattle.workload.specs.Load.{no_set}
 use Rattle.workload.specs.World.{Lists, IsSetWithin, centre_count, rule_of, members_of, set_of}
-use Rattle.workload.specs.declared.rules.Demand.{Demand}
 use Rattle.workload.specs.declared.rules.Mode.TheVariants as mode
 use Rattle.slo_rules.specs.Cost.{stored_cost, gets_cost}
 use Rattle.placement_rows.specs.Centres.{centres}

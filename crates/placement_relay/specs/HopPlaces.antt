@@ -1,5 +1,5 @@
 -- Where the bits of hops stand: words of inner contracts alone.
-use Rattle.std.specs.Prelude.{◌≡◌, ℕ, ◌+◌, ◌*◌, ◌<◌, ◌==◌, true, List, length, slice_index, slice_index_or}
+use Rattle.std.specs.Prelude.{◌≡◌, ℕ, ◌<◌, ◌==◌, true, List, length, slice_index, slice_index_or}
 use Rattle.std.specs.List.{list_any}
 use Rattle.span_base.specs.declared.policy.Hop.{Hop}
 use Rattle.workload.specs.World.{Lists, centre_count, members_of}

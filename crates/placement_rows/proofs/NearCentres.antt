@@ -1,13 +1,13 @@
 -- The near centres of the members of a set, as sets and as lists.
-use Rattle.std.proofs.Common.{◌≡◌, ℕ, zero, suc, ◌+◌, ◌<◌, ◌≤◌, List, [], ◌∷◌, length, get_or, map, refl, ap, ◌∙◌, arith}
-use Rattle.std.specs.List.{filter, enumerate_from}
+use Rattle.std.proofs.Common.{◌≡◌, ℕ, ◌+◌, ◌<◌, ◌≤◌, List, [], ◌∷◌, length, get_or, map, refl, ap, ◌∙◌}
+use Rattle.std.specs.List.{enumerate_from}
 use Rattle.std.proofs.lemmas.List.{get_or-map, length-map}
 use Rattle.span_base.specs.declared.dc_set.DcSet.{DcSet}
-use Rattle.span_base.specs.DcSet.{has, centres_of, no_centre as no_dc}
+use Rattle.span_base.specs.DcSet.{centres_of, no_centre as no_dc}
 use Rattle.workload.specs.World.{Lists, centre_count, rule_of, members_of}
 use Rattle.workload.specs.declared.rules.Demand.{Demand}
 use Rattle.slo_rules.specs.Rules.{is_read_near, is_write_near}
-use Rattle.placement_rows.specs.Centres.{centres, read_near, write_near, set_of_centres, nobody}
+use Rattle.placement_rows.specs.Centres.{read_near, write_near, set_of_centres, nobody}
 use Rattle.placement_rows.specs.NearSets.{read_near_sets, write_near_sets}
 use Rattle.placement_rows.proofs.Collected.{centres_of-set_of}
 

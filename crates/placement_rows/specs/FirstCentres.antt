@@ -1,5 +1,5 @@
 -- The first centres of providers, as a program's builder finds them once.
-use Rattle.std.specs.Prelude.{◌≡◌, ℕ, ◌<◌, Bool, true, false, ◌==◌, List, map, slice_index}
+use Rattle.std.specs.Prelude.{◌≡◌, ℕ, ◌<◌, Bool, true, false, ◌==◌, List, slice_index}
 use Rattle.std.specs.List.{filter, range_with_len, list_any}
 use Rattle.workload.specs.World.{Lists, centre_count}
 use Rattle.slo_rules.specs.Rules.{same_provider}

@@ -16,8 +16,7 @@ loop-a-preserved c =
     let listed : c.members-member-items.result.now ≡ members = c.members-member-items.ensures.members in
     let inside : a < length members = omega (arith, c.loop-a-test.true, ap length listed) in
     let here : at ≡ (get_or members a nobody).dc.0 = c.from.ensures ∙ ap (λ ms. (get_or ms a nobody).dc.0) listed in
-    let low : at < 16 = omega (arith, here, member-low w set c.requires a inside) in
-    (
+    let low : at < 16 = omega (arith, here, member-low w set c.requires a inside) in (
       length-set c.loop-a.numbers at a ∙ c.loop-a.invariant.0,
       numbers-next members c.loop-a.numbers a at c.loop-a.invariant.0 (members_apart w set c.requires) inside here low c.loop-a.invariant.1,
     )

@@ -1,6 +1,5 @@
-use Rattle.std.proofs.Common.{◌≡◌, ◌+◌, ◌*◌, ◌<◌, ◌++◌, ◌∙◌, false, true, length, get_or, set as write, take, replicate, refl, sym, ap, arith}
+use Rattle.std.proofs.Common.{◌≡◌, ◌+◌, ◌*◌, ◌++◌, ◌∙◌, false, true, length, get_or, set as write, take, replicate, refl, sym, ap, arith}
 use Rattle.std.proofs.lemmas.List.{length-append}
-use Rattle.span_base.specs.declared.policy.Hop.{Hop}
 use Rattle.workload.specs.World.{centre_count, members_of}
 use Rattle.placement_relay.specs.Placed.{hop_bits}
 use Rattle.placement_relay.proofs.Members.{set_within}

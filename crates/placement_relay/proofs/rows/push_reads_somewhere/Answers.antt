@@ -1,4 +1,4 @@
-use Rattle.std.proofs.Common.{◌≡◌, ◌++◌, ◌<◌, ◌∙◌, sym, ap, arith, map, length, take, get_or, [], ◌∷◌}
+use Rattle.std.proofs.Common.{◌++◌, ◌∙◌, sym, ap, arith, map, take, [], ◌∷◌}
 use Rattle.std.specs.List.{enumerate_from}
 use Rattle.std.proofs.lemmas.List.{take_all, append_assoc}
 use Rattle.std.proofs.lemmas.List.FromFn.{length-enumerate_from}

@@ -1,4 +1,4 @@
-use Rattle.std.proofs.Common.{◌≡◌, ◌++◌, ◌∙◌, List, ap, map}
+use Rattle.std.proofs.Common.{◌++◌, ◌∙◌, List, ap, map}
 use Rattle.span_base.specs.declared.dc_set.DcSet.{DcSet}
 use Rattle.span_base.specs.DcSet.{centres_of}
 use Rattle.placement_rows.proofs.NearCentres.{write-made}

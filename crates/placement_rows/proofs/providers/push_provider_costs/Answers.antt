@@ -1,4 +1,4 @@
-use Rattle.std.proofs.Common.{◌≡◌, ◌++◌, ◌∙◌, ℕ, true, cond, List, [], map, sym, ap, arith}
+use Rattle.std.proofs.Common.{◌≡◌, ◌++◌, ◌∙◌, ℕ, true, cond, [], map, sym, ap, arith}
 use Rattle.std.specs.List.{filter, range_with_len}
 use Rattle.workload.specs.World.{centre_count}
 use Rattle.placement_rows.specs.Providers.{providers, asks_providers}

@@ -3,7 +3,6 @@ use Rattle.std.proofs.Math.ListN.{length-set}
 use Rattle.std.proofs.lemmas.Bool.{cases_lt}
 use Rattle.std.proofs.lemmas.List.{get_or-set_other}
 use Rattle.std.proofs.lemmas.Grind.{get_or-set_at}
-use Rattle.workload.specs.World.{centre_count}
 use Rattle.placement_rows.specs.FirstCentres.{IsFirstOf}
 use Rattle.placement_rows.proofs.first_centres.FirstCentres.find.Goals as goal
 
