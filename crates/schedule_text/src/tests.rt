@@ -205,3 +205,60 @@ fn events_are_given_one_by_one(rt: HostRuntime) -> Result<(), Fail> {
     assert_eq!(rt; events.line(), 9);
     Ok(())
 }
+
+#[test]
+fn counts_are_limited(rt: HostRuntime) -> Result<(), Fail> {
+    let cases: [(&[u8], &[u8], usize, What, u64, u128); 4] = [
+        (
+            b"span-schedule 1\nreplicas 3\nset strong 0 0/0/0\nkey 0\n",
+            b"proxy 0\n",
+            65,
+            What::Proxies,
+            69,
+            65,
+        ),
+        (
+            b"span-schedule 1\nreplicas 3\nset strong 0 0/0/0\n",
+            b"key 0\n",
+            1001,
+            What::Keys,
+            1004,
+            1001,
+        ),
+        (
+            b"span-schedule 1\nreplicas 3\n",
+            b"set strong 0 0/0/0\n",
+            65,
+            What::Sets,
+            67,
+            65,
+        ),
+        (
+            b"span-schedule 1\n",
+            b"replicas 17\n",
+            1,
+            What::Replicas,
+            2,
+            17,
+        ),
+    ];
+    for (head, line, times, what, at, number) in cases {
+        let mut text = Vec::from_slice(rt.alloc(), head)?;
+        for _ in 0..times {
+            text.extend_from_slice(line)?;
+        }
+        let fault = match read_schedule(rt.alloc(), text.as_slice(), Form::Plain) {
+            Ok(_) => None,
+            Err(fault) => Some(fault),
+        };
+        assert_eq!(rt;
+            fault,
+            Some(ScheduleFault::Limit {
+                line: at,
+                what,
+                number
+            })
+        );
+    }
+    Ok(())
+}
