@@ -1,9 +1,8 @@
 -- The four calls that append a record: what a crash leaves at each moment.
-use Rattle.std.proofs.Common.{ℕ, ◌≡◌, ◌≢◌, ◌+◌, ◌⊎◌, inl, inr, List, [], ◌∷◌, ◌++◌, length, drop, get_or, refl, sym, ◌∙◌, ap, subst, arith, append_assoc, length-append}
-use Rattle.std.specs.List.{AllByRecursion}
+use Rattle.std.proofs.Common.{ℕ, ◌≡◌, ◌≢◌, ◌+◌, inl, inr, List, [], ◌∷◌, ◌++◌, length, drop, get_or, refl, sym, ◌∙◌, ap, subst, arith, append_assoc, length-append}
 use Rattle.wire_msg.specs.declared.message.Message.{Message}
-use Rattle.replica_journal.specs.Disk.{Change, History, Wrote, Synced, put, bytes_of, Torn, IsImage, GoesOn, AtEachMoment}
-use Rattle.replica_journal.specs.Records.{IsRecord, body_of, records_of, IsClosed, IsJournal, HasRecords, IsAtRest, IsBeforeOrAfter}
+use Rattle.replica_journal.specs.Disk.{History, Wrote, Synced, put, bytes_of, Torn, IsImage, GoesOn, AtEachMoment}
+use Rattle.replica_journal.specs.Records.{IsRecord, body_of, records_of, IsClosed, IsJournal, IsAtRest, IsBeforeOrAfter}
 use Rattle.replica_journal.proofs.Puts.{torn_behind, put_behind, torn_gate, put_gate}
 use Rattle.replica_journal.proofs.Moments.{at_start, at_next, goes_on_here, goes_on_next}
 use Rattle.replica_journal.proofs.Journals.{records_length, ended_at, longer, at_any_gate}

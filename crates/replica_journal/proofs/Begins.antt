@@ -1,12 +1,12 @@
 -- What is told of a disk at each way out of the beginning of the opening.
-use Rattle.std.proofs.Common.{ℕ, ◌≡◌, ◌+◌, ◌<◌, ◌≤◌, ◌⊎◌, inl, inr, List, [], ◌∷◌, ◌++◌, length, take, drop, Option, Some, None, Result, Ok, Err, refl, sym, ◌∙◌, ap, subst, arith}
+use Rattle.std.proofs.Common.{ℕ, ◌≡◌, ◌+◌, ◌<◌, ◌≤◌, inl, inr, List, [], ◌∷◌, length, Option, Some, None, Result, Ok, Err, refl, ◌∙◌, ap, subst, arith}
 use Rattle.std.proofs.lemmas.List.{drop_all}
 use Rattle.span_base.specs.declared.sink.DeviceFault.{DeviceFault}
 use Rattle.span_base.specs.declared.sink.DeviceFault.TheVariants as device
 use Rattle.replica_journal.specs.declared.disk.Failed.{Failed}
 use Rattle.replica_journal.specs.declared.open_fault.OpenCause.{OpenCause}
-use Rattle.replica_journal.specs.Disk.{Change, History, Wrote, Synced, synced, put, bytes_of, Torn, IsImage, Writes, Syncs, TellsLength, GoesOn, AtEachMoment}
-use Rattle.replica_journal.specs.Beginning.{IsReady, IsNoWorse, IsReadyOn, Begun, Begins}
+use Rattle.replica_journal.specs.Disk.{History, Wrote, Synced, synced, bytes_of, IsImage, Writes, Syncs, TellsLength, GoesOn, AtEachMoment}
+use Rattle.replica_journal.specs.Beginning.{IsReady, IsNoWorse, Begins}
 use Rattle.replica_journal.proofs.Moments.{at_start, at_next, goes_on_here, goes_on_next}
 
 synced_bytes : (history : History) → bytes_of (synced history) ≡ bytes_of history

@@ -1,12 +1,12 @@
 -- A buffer is filled piece after piece.
-use Rattle.std.proofs.Common.{ℕ, ◌≡◌, ◌+◌, ◌-◌, ◌<◌, ◌≤◌, List, [], ◌∷◌, ◌++◌, length, take, drop, Option, Some, None, Ok, refl, sym, inl, inr, ◌∙◌, ap, subst, arith, append_assoc, length-append, length-drop, take-append-drop}
+use Rattle.std.proofs.Common.{ℕ, ◌≡◌, ◌+◌, ◌≤◌, List, ◌++◌, length, take, drop, Option, Some, None, Ok, refl, sym, inl, inr, ◌∙◌, ap, subst, arith}
 use Rattle.std.specs.Prelude.{⊤}
 use Rattle.std.proofs.Math.Seq.{take-add}
 use Rattle.std.proofs.lemmas.List.{length-take, take_at, take-append-le, drop_at, drop-drop}
 use Rattle.std.proofs.lemmas.Bool.{cases_lt}
 use Rattle.span_base.specs.Files.{GivesFrom}
 use Rattle.replica_journal.specs.Disk.{History, bytes_of, TellsFrom}
-use Rattle.replica_journal.specs.Windows.{HasFront, HasFrontOf}
+use Rattle.replica_journal.specs.Windows.{HasFrontOf}
 
 -- the first bytes of the buffer are those of the file
 abbrev pub IsFilled : Option History → ℕ → List ℕ → ℕ → Type 0

@@ -1,14 +1,14 @@
 -- What a window says of a gate is so of the disk.
-use Rattle.std.proofs.Common.{ℕ, ◌≡◌, ◌+◌, ◌-◌, ◌<◌, ◌≤◌, List, [], ◌∷◌, ◌++◌, length, take, drop, Option, Some, None, refl, sym, ◌∙◌, ap, subst, arith, append_assoc, length-append, length-drop, take-append-drop}
+use Rattle.std.proofs.Common.{ℕ, ◌≡◌, ◌+◌, ◌-◌, ◌<◌, ◌≤◌, List, [], ◌∷◌, ◌++◌, length, take, drop, Option, Some, None, sym, ◌∙◌, ap, subst, arith, append_assoc, length-append, take-append-drop}
 use Rattle.std.specs.Prelude.{MatchOption, IfSome}
-use Rattle.std.proofs.lemmas.List.{length-take, take_all, drop-take, drop-append-le, drop-drop, drop_all, append-nil}
+use Rattle.std.proofs.lemmas.List.{length-take, drop-take, drop-append-le, drop-drop, drop_all, append-nil}
 use Rattle.replica_journal.specs.declared.record.AtGate.{AtGate}
 use Rattle.replica_journal.specs.declared.record.AtGate.TheVariants.{Record, Closed, Damaged}
 use Rattle.replica_journal.specs.declared.window.Window.{Window}
 use Rattle.replica_journal.specs.Disk.{History, bytes_of}
 use Rattle.replica_journal.specs.Records.{IsClosed, body_of}
 use Rattle.replica_journal.specs.AtGate.{IsAtGate, IsShort}
-use Rattle.replica_journal.specs.Windows.{HasFront, HasFrontOf, IsWindow, IsInside, IsFound, IsFoundAt, IsSoundFound}
+use Rattle.replica_journal.specs.Windows.{HasFront, IsWindow, IsInside, IsFound, IsFoundAt, IsSoundFound}
 
 closed_more : (window more : List ℕ) → IsClosed window → IsClosed (window ++ more)
 closed_more [] more closed = absurd closed

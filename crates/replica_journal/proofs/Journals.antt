@@ -1,10 +1,10 @@
 -- What bytes with one record more, or with the front of one, are as a journal.
-use Rattle.std.proofs.Common.{ℕ, ◌≡◌, ◌≢◌, ◌+◌, ◌⊎◌, inl, inr, List, [], ◌∷◌, ◌++◌, length, refl, sym, ◌∙◌, ap, subst, arith, append_assoc, length-append}
+use Rattle.std.proofs.Common.{ℕ, ◌≡◌, ◌≢◌, ◌+◌, inl, inr, List, [], ◌∷◌, ◌++◌, length, refl, sym, ◌∙◌, ap, subst, arith, append_assoc, length-append}
 use Rattle.std.proofs.lemmas.List.{append-nil}
 use Rattle.std.proofs.lemmas.Bool.{cases_eq}
 use Rattle.std.specs.List.{AllByRecursion}
 use Rattle.wire_msg.specs.declared.message.Message.{Message}
-use Rattle.replica_journal.specs.Records.{IsRecord, body_of, records_of, IsClosed, IsJournal, HasRecords, IsBeforeOrAfter}
+use Rattle.replica_journal.specs.Records.{IsRecord, body_of, records_of, IsJournal, IsBeforeOrAfter}
 
 -- the record of one message more
 pub records_push : (messages : List Message) (message : Message) (rest : List ℕ) → records_of (messages ++ message ∷ []) ++ rest ≡ records_of messages ++ 1 ∷ (body_of message ++ rest)

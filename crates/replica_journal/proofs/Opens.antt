@@ -1,16 +1,15 @@
 -- What is told of a disk at each way out of the opening.
-use Rattle.std.proofs.Common.{ℕ, ◌≡◌, ◌<◌, ◌≤◌, ◌⊎◌, inl, inr, List, [], ◌∷◌, length, Option, Some, None, Result, Ok, Err, refl, sym, ◌∙◌, ap, subst, arith}
+use Rattle.std.proofs.Common.{ℕ, ◌≡◌, ◌<◌, ◌≤◌, ◌⊎◌, inl, inr, List, [], ◌∷◌, length, Option, Some, None, Ok, Err, refl, sym, ◌∙◌, ap, subst, arith}
 use Rattle.wire_msg.specs.declared.message.Message.{Message}
 use Rattle.replica_core.specs.Rule.{State, opening_state}
 use Rattle.replica_journal.specs.declared.open_fault.OpenCause.{OpenCause}
 use Rattle.replica_journal.specs.declared.open_fault.OpenCause.TheVariants as cause
 use Rattle.replica_journal.specs.declared.replay.Place.{Place}
-use Rattle.replica_journal.specs.declared.opening.Opened.{Opened}
 use Rattle.replica_journal.specs.Disk.{History, bytes_of}
 use Rattle.replica_journal.specs.Records.{HasRecords, IsJournal, IsDamagedAt}
-use Rattle.replica_journal.specs.Beginning.{IsReady, Begun, Begins}
+use Rattle.replica_journal.specs.Beginning.{IsReady, Begins}
 use Rattle.replica_journal.specs.Replaying.{IsEnd, IsWhole, ReplaysOf}
-use Rattle.replica_journal.specs.Opened.{IsAnswered, IsOpening, Opens}
+use Rattle.replica_journal.specs.Opened.{IsAnswered, Opens}
 use Rattle.replica_journal.proofs.Rows.{none_in}
 
 -- nothing is answered but a cause that says nothing of the bytes

@@ -1,5 +1,5 @@
 -- What the bytes behind an open gate say.
-use Rattle.std.proofs.Common.{ℕ, ◌≡◌, ◌+◌, ◌-◌, ◌<◌, ◌≤◌, ◌^◌, List, [], ◌∷◌, ◌++◌, length, take, drop, get_or, Some, None, IfSome, refl, sym, ◌∙◌, ap, subst, arith, append_assoc, length-append, length-drop, take-append-drop, zero, suc}
+use Rattle.std.proofs.Common.{ℕ, ◌≡◌, ◌+◌, ◌<◌, ◌≤◌, List, [], ◌∷◌, ◌++◌, length, take, drop, get_or, Some, None, IfSome, refl, sym, ◌∙◌, ap, subst, arith, append_assoc, length-append, length-drop, take-append-drop, zero, suc}
 use Rattle.std.proofs.lemmas.List.{append-nil, length-take, take_at, take-append-le}
 use Rattle.std.proofs.lemmas.Nat.{be_bytes_2}
 use Rattle.std.specs.Int.{w16, from_be_bytes, to_be_bytes}
@@ -14,7 +14,7 @@ use Rattle.wire_msg.proofs.MessageLaws.{told_apart}
 use Rattle.wire_msg.proofs.SizeLaws.{frame_length}
 use Rattle.replica_core.specs.Rule.{request_key}
 use Rattle.replica_core.specs.Taking.{IsLogged}
-use Rattle.replica_journal.specs.Records.{IsRecord, IsSoundRecord, body_of}
+use Rattle.replica_journal.specs.Records.{IsSoundRecord}
 use Rattle.replica_journal.specs.AtGate.{FrameHolds, IsRecordAt, IsShort, IsUnsound}
 use Rattle.replica_journal.proofs.Rows.{head_length, behind_head}
 

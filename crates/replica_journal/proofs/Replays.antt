@@ -1,17 +1,15 @@
 -- A journal is replayed record after record.
-use Rattle.std.proofs.Common.{ℕ, ◌≡◌, ◌+◌, ◌-◌, ◌<◌, ◌≤◌, ◌⊎◌, inl, inr, List, [], ◌∷◌, ◌++◌, length, take, drop, Option, Some, None, Ok, Err, refl, sym, ◌∙◌, ap, subst, arith, append_assoc, length-append, length-drop, take-append-drop}
+use Rattle.std.proofs.Common.{ℕ, ◌≡◌, ◌+◌, ◌-◌, ◌<◌, ◌≤◌, ◌⊎◌, inl, inr, List, [], ◌∷◌, ◌++◌, length, take, drop, Option, Some, None, Ok, Err, refl, sym, ◌∙◌, ap, arith, length-append, length-drop, take-append-drop}
 use Rattle.std.proofs.Math.Seq.{take-add}
 use Rattle.std.proofs.lemmas.List.{append-nil, take_at, length_push}
-use Rattle.std.specs.List.{AllByRecursion}
 use Rattle.wire_msg.specs.declared.message.Message.{Message}
 use Rattle.replica_core.specs.Rule.{State, step}
 use Rattle.replica_journal.specs.declared.record.AtGate.TheVariants.{Record, Closed, Damaged}
 use Rattle.replica_journal.specs.declared.open_fault.OpenCause.TheVariants as cause
-use Rattle.replica_journal.specs.declared.replay.Place.{Place}
 use Rattle.replica_journal.specs.Disk.{History, bytes_of}
 use Rattle.replica_journal.specs.Records.{IsRecord, body_of, records_of, state_after}
 use Rattle.replica_journal.specs.Windows.{IsFoundAt, IsInside}
-use Rattle.replica_journal.specs.Replaying.{IsEnd, IsReplayed, IsReplayedOf, ReplaysOf}
+use Rattle.replica_journal.specs.Replaying.{IsEnd, IsReplayedOf, ReplaysOf}
 use Rattle.replica_journal.proofs.Journals.{records_push, records_length, all_push}
 
 state_push : (start : State) (messages : List Message) (message : Message) → state_after start (messages ++ message ∷ []) ≡ (step (state_after start messages) message).state

@@ -1,7 +1,7 @@
 -- A sound disk stays sound while it is opened.
-use Rattle.std.proofs.Common.{ℕ, ◌≡◌, ◌≤◌, ◌⊎◌, inl, inr, List, [], length, refl, sym, subst}
+use Rattle.std.proofs.Common.{ℕ, inl, inr, List, [], refl, sym, subst}
 use Rattle.wire_msg.specs.declared.message.Message.{Message}
-use Rattle.replica_journal.specs.Disk.{History, IsImage, AtEachMoment, bytes_of}
+use Rattle.replica_journal.specs.Disk.{History, AtEachMoment, bytes_of}
 use Rattle.replica_journal.specs.Records.{HasRecords, IsDamagedAt, IsSoundDisk}
 use Rattle.replica_journal.specs.Beginning.{IsNoWorse}
 use Rattle.replica_journal.proofs.Puts.{reading_is_image}

@@ -1,5 +1,5 @@
 -- What a disk holds: how it reads, and what a crash may leave of it.
-use Rattle.std.specs.Prelude.{ℕ, ◌≡◌, ◌+◌, ◌<◌, ◌≤◌, max, ⊤, List, [], ◌∷◌, ◌++◌, length, take, drop, Option, Some, None, Result, Ok, Err}
+use Rattle.std.specs.Prelude.{ℕ, ◌≡◌, ◌+◌, ◌≤◌, max, ⊤, List, [], ◌∷◌, ◌++◌, length, take, drop, Option, Some, None, Result, Ok, Err}
 use Rattle.span_base.specs.Files.{GivesFrom}
 use Rattle.span_base.specs.declared.sink.DeviceFault.{DeviceFault}
 use Rattle.span_base.specs.declared.sink.DeviceFault.TheVariants as device

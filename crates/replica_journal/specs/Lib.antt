@@ -11,3 +11,4 @@ pub mod Replaying
 pub mod Causes
 pub mod Beginning
 pub mod Opened
+pub mod Examples

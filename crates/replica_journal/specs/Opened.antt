@@ -1,7 +1,7 @@
 -- What opening a journal answers, and what it leaves of the disk.
 use Rattle.std.specs.Prelude.{ℕ, ◌≡◌, ⊤, List, length, Option, Some, None, Result, Ok, Err}
 use Rattle.wire_msg.specs.declared.message.Message.{Message}
-use Rattle.replica_core.specs.Rule.{State, opening_state}
+use Rattle.replica_core.specs.Rule.{opening_state}
 use Rattle.replica_journal.specs.declared.open_fault.OpenCause.{OpenCause}
 use Rattle.replica_journal.specs.declared.open_fault.OpenCause.TheVariants.{NoMemory, DiskFault, Damaged}
 use Rattle.replica_journal.specs.declared.opening.Opened.{Opened}

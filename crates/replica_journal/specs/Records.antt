@@ -1,6 +1,6 @@
 -- The records of a journal: a gate of one byte, the length of a frame in two, and the frame. A gate
 -- is open where it is 1. The journal ends at the first gate that isn't open.
-use Rattle.std.specs.Prelude.{ℕ, ◌≡◌, ◌≢◌, ◌+◌, ◌<◌, ◌≤◌, ⊤, ◌⊎◌, List, [], ◌∷◌, ◌++◌, length, IfSome}
+use Rattle.std.specs.Prelude.{ℕ, ◌≡◌, ◌≢◌, ◌<◌, ◌≤◌, ◌⊎◌, List, [], ◌∷◌, ◌++◌, length, IfSome}
 use Rattle.std.specs.List.{AllByRecursion}
 use Rattle.std.specs.Int.{w16}
 use Rattle.wire_msg.specs.declared.message.Message.{Message}

@@ -1,5 +1,5 @@
 -- Bytes of a disk that were read into a buffer, and what they say of the gate at a place.
-use Rattle.std.specs.Prelude.{ℕ, ◌≡◌, ◌+◌, ◌<◌, ◌≤◌, ⊤, List, [], ◌∷◌, ◌++◌, length, take, drop, Option, Some, None, Result, Ok, Err}
+use Rattle.std.specs.Prelude.{ℕ, ◌≡◌, ◌+◌, ◌<◌, ◌≤◌, ⊤, List, ◌∷◌, length, take, drop, Option, Some, None, Result, Ok, Err}
 use Rattle.replica_journal.specs.declared.disk.Failed.{Failed}
 use Rattle.replica_journal.specs.declared.record.AtGate.{AtGate}
 use Rattle.replica_journal.specs.declared.record.AtGate.TheVariants.{Record, Closed, Damaged}

@@ -13,6 +13,7 @@ mod opening;
 mod record;
 mod replay;
 mod window;
+pub mod worked;
 mod write;
 
 pub use disk::{Disk, Failed};

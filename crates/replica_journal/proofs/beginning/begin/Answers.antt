@@ -1,4 +1,3 @@
-use Rattle.std.proofs.Common.{ℕ, ◌≡◌, List, [], ◌∷◌, Ok, Err}
 use Rattle.std.proofs.lemmas.Result.{err_from_is_err_and}
 use Rattle.replica_journal.proofs.Begins.{sync_fails, len_fails, long_ready, write_fails, last_fails, closed_told}
 use Rattle.replica_journal.proofs.beginning.begin.Goals as goal

@@ -1,8 +1,8 @@
-use Rattle.std.proofs.Common.{ℕ, ◌≡◌, ◌+◌, List, [], ◌∷◌, length, Option, Some, Result, Ok, Err, sym, ◌∙◌, subst, arith}
+use Rattle.std.proofs.Common.{◌≡◌, ◌+◌, length, Option, Some, Result, Ok, Err, sym, subst, arith}
 use Rattle.std.proofs.lemmas.Grind.{common_steps}
 use Rattle.span_base.specs.declared.sink.DeviceFault.{DeviceFault}
 use Rattle.span_base.specs.declared.sink.DeviceFault.TheVariants as device
-use Rattle.replica_journal.specs.Disk.{History, Writes, Syncs}
+use Rattle.replica_journal.specs.Disk.{History, Writes}
 use Rattle.replica_journal.specs.Appended.{Appended}
 use Rattle.replica_journal.proofs.Appends.{first_fails, sync_fails, stage_told, second_fails, opened_told, last_fails, is_done}
 use Rattle.replica_journal.proofs.journal.append.Goals as goal

@@ -1,4 +1,4 @@
-use Rattle.std.proofs.Common.{◌≡◌, [], ◌∷◌, ◌++◌, arith}
+use Rattle.std.proofs.Common.{arith}
 use Rattle.std.proofs.lemmas.Grind.{common_steps}
 use Rattle.replica_journal.proofs.Histories.{safe_last}
 use Rattle.replica_journal.proofs.mem_disk.make_safe.Goals as goal

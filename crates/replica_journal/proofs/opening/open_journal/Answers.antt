@@ -1,9 +1,8 @@
-use Rattle.std.proofs.Common.{ℕ, ◌≡◌, Ok, Err, sym, subst, arith}
-use Rattle.std.proofs.lemmas.Grind.{common_steps}
+use Rattle.std.proofs.Common.{Ok, Err, subst}
 use Rattle.std.proofs.lemmas.Result.{err_from_is_err_and}
 use Rattle.replica_core.specs.Rule.{State}
-use Rattle.replica_journal.specs.Replaying.{ReplaysOf, IsEnd}
-use Rattle.replica_journal.proofs.Opens.{begin_fails, make_fails, is_end, replay_fails, is_opened}
+use Rattle.replica_journal.specs.Replaying.{ReplaysOf}
+use Rattle.replica_journal.proofs.Opens.{is_end, replay_fails, is_opened}
 use Rattle.replica_journal.proofs.opening.open_journal.Goals as goal
 
 pub replay-requires-clause-end : goal.replay-requires-clause-end

@@ -1,4 +1,4 @@
-use Rattle.std.proofs.Common.{ℕ, ◌≡◌, ◌+◌, ◌-◌, length, Option, sym, ◌∙◌, subst, false, arith}
+use Rattle.std.proofs.Common.{Option, ◌∙◌, subst, false, arith}
 use Rattle.std.proofs.lemmas.Grind.{common_steps}
 use Rattle.replica_journal.specs.declared.record.AtGate.{AtGate}
 use Rattle.replica_journal.specs.declared.record.AtGate.TheVariants.{Record, Damaged}

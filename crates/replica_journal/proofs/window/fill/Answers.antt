@@ -1,4 +1,4 @@
-use Rattle.std.proofs.Common.{ℕ, ◌≡◌, ◌-◌, length, take, refl, false, arith}
+use Rattle.std.proofs.Common.{◌-◌, length, refl, false, arith}
 use Rattle.std.proofs.lemmas.Grind.{common_steps}
 use borrow.Rule.Slice.PartMut.{put_mid, post_of}
 use Rattle.replica_journal.proofs.Counted.{counts_on}

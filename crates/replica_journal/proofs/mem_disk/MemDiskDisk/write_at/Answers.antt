@@ -1,6 +1,5 @@
-use Rattle.std.proofs.Common.{◌≡◌, true, false, arith}
+use Rattle.std.proofs.Common.{true, false, arith}
 use Rattle.std.proofs.lemmas.Grind.{common_steps}
-use Rattle.replica_journal.specs.Calls.{next_fails}
 use Rattle.replica_journal.proofs.Counted.{counted_at}
 use Rattle.replica_journal.proofs.mem_disk.MemDiskDisk.write_at.Goals as goal
 

@@ -1,4 +1,4 @@
-use Rattle.std.proofs.Common.{ℕ, ◌≡◌, ◌+◌, ◌-◌, List, length, take, drop, IfSome, subst, arith}
+use Rattle.std.proofs.Common.{ℕ, ◌-◌, List, take, drop, IfSome, subst, arith}
 use Rattle.std.proofs.lemmas.Result.{IfOk-weaker}
 use Rattle.replica_journal.specs.AtGate.{IsAtGate}
 use Rattle.replica_journal.specs.Windows.{IsSoundFound}
