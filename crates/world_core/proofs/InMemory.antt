@@ -1,5 +1,5 @@
 -- Replicas in memory keep no journal, so that no step fails by one.
-use Rattle.std.proofs.Common.{◌≡◌, ℕ, zero, suc, ◌+◌, ◌<◌, ◌≤◌, Bool, true, false, cond, ltb, List, [], ◌∷◌, length, map, get_or, refl, sym, ap, ◌∙◌, subst, arith}
+use Rattle.std.proofs.Common.{◌≡◌, ℕ, zero, suc, ◌<◌, ◌≤◌, Bool, true, false, cond, ltb, List, [], ◌∷◌, length, map, get_or, refl, sym, ap, ◌∙◌, subst, arith}
 use Rattle.std.specs.Prelude.{slice_get, slice_index_or, sum_by, Option, Some, None, Result, Ok, Err}
 use Rattle.std.specs.Option.{option_map_or}
 use Rattle.std.proofs.Math.ListN.{get_or-eq_default}
@@ -20,8 +20,8 @@ use Rattle.world_core.specs.declared.event.Event.TheVariants.{Start, Deliver, St
 use Rattle.world_core.specs.declared.event.StepFault.{StepFault}
 use Rattle.world_core.specs.declared.event.StepFault.TheVariants.{NoActor, NoKey, WrongMode, NoMessage, NoCall, Limit, Taker, NoMemory}
 use Rattle.world_core.specs.State.{Store, Replica, no_replica, replica_at}
-use Rattle.world_core.specs.Step.{Outcome, step}
-use Rattle.world_core.specs.Ends.{Seen, Journal, no_journal, Journals, JournalsFor, EndsAs, StepEnds, taken_by_replica, replica_asked}
+use Rattle.world_core.specs.Step.{step}
+use Rattle.world_core.specs.Ends.{Seen, Journal, no_journal, Journals, JournalsFor, StepEnds, taken_by_replica, replica_asked}
 use Rattle.world_core.specs.InMemory.{EndsInMemory}
 
 -- what is seen of a replica in memory
