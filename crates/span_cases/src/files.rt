@@ -24,7 +24,7 @@ impl Files {
         }
     }
 
-    /// Begins a file; one of the same name is gone.
+    /// Begins a file without bytes; one of the same name is gone.
     pub fn begin(&mut self, name: &str) -> Result<(), AllocError> {
         let alloc = *self.given.allocator();
         self.given.retain(|file| file.name.as_str() != name);
@@ -36,11 +36,16 @@ impl Files {
 
     /// Adds a line to the newest file.
     pub fn add(&mut self, text: &str) -> Result<(), AllocError> {
+        self.add_unended(text)?;
+        self.add_unended("\n")
+    }
+
+    /// Adds a text without a line feed to the newest file.
+    pub fn add_unended(&mut self, text: &str) -> Result<(), AllocError> {
         let Some(file) = self.given.last_mut() else {
             return Ok(());
         };
-        file.text.push_str(text)?;
-        file.text.push('\n')
+        file.text.push_str(text)
     }
 
     /// Adds so many lines to the newest file, each with its number in the place of `#`.

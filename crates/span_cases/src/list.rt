@@ -10,6 +10,10 @@ pub enum Line<'a> {
     Text {
         text: &'a str,
     },
+    /// `~TEXT`: the same without a line feed.
+    Unended {
+        text: &'a str,
+    },
     /// `*COUNT TEXT`: so many lines of the newest file, each with its number, counted from 1, for
     /// every `#`. The text may be absent.
     Repeated {
@@ -35,6 +39,9 @@ pub fn line_of(line: &str) -> Line<'_> {
     }
     if let Some(text) = line.strip_prefix('|') {
         return Line::Text { text };
+    }
+    if let Some(text) = line.strip_prefix('~') {
+        return Line::Unended { text };
     }
     if let Some(repeated) = line.strip_prefix('*') {
         return repeated_of(repeated);

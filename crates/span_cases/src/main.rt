@@ -30,6 +30,7 @@ fn take(rt: &HostRuntime, files: &mut Files, line: &str) -> io::Result<()> {
         Line::Remark => Ok(()),
         Line::File { name } => Ok(files.begin(name)?),
         Line::Text { text } => Ok(files.add(text)?),
+        Line::Unended { text } => Ok(files.add_unended(text)?),
         Line::Repeated { count, text } => Ok(files.add_repeated(count, text)?),
         Line::Run { command, options } => match run_of(rt.alloc(), command, options)? {
             Some(run) => tell_run(rt, files, &run),

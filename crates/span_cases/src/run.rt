@@ -16,6 +16,11 @@ pub struct Run {
     pub no_trees: bool,
     /// What a status means is told in words too.
     pub in_words: bool,
+    /// The last file is cut at each of its lengths in turn; a length is told where its status line
+    /// is another than that of the length before.
+    pub each_front: bool,
+    /// What is written becomes the file of this name, and isn't told.
+    pub into: Option<String>,
 }
 
 /// The run of these words, of which the first is `span`, and of these options, with a ` ; ` between
@@ -32,12 +37,14 @@ pub fn run_of(
         each_fault: false,
         no_trees: false,
         in_words: false,
+        each_front: false,
+        into: None,
     };
     let Some(options) = options else {
         return Ok(Some(run));
     };
     for option in options.split(" ; ") {
-        if !take_option(&mut run, option) {
+        if !take_option(alloc, &mut run, option)? {
             return Ok(None);
         }
     }
@@ -55,14 +62,19 @@ fn words_of(alloc: Global, command: &str) -> Result<Vec<Word>, AllocError> {
 }
 
 // Takes an option, and answers whether it is one.
-fn take_option(run: &mut Run, option: &str) -> bool {
+fn take_option(alloc: Global, run: &mut Run, option: &str) -> Result<bool, AllocError> {
+    if let Some(name) = option.strip_prefix("into ") {
+        run.into = Some(String::from_str(alloc, name)?);
+        return Ok(true);
+    }
     match option {
         "each-fault" => run.each_fault = true,
+        "each-front" => run.each_front = true,
         "no-trees" => run.no_trees = true,
         "in-words" => run.in_words = true,
-        _ => return take_failing_call(run, option),
+        _ => return Ok(take_failing_call(run, option)),
     }
-    true
+    Ok(true)
 }
 
 // Takes `shelf N` or `sink N`.

@@ -1,17 +1,33 @@
 use crate::files::Files;
 use crate::run::Run;
-use span_base::{MemShelf, MemSink};
+use span_base::{Bytes, FileEntry, MemShelf, MemSink, Word};
 use span_top::{Status, explain, span};
 use std::alloc::{AllocError, Global};
 use std::{io, str};
 
-/// Runs, and writes what came of it; each fault by itself, where this is asked.
-pub fn tell_run(rt: &HostRuntime, files: &Files, run: &Run) -> io::Result<()> {
+/// Runs, and writes what came of it; each fault by itself, or each front of the last file, where this
+/// is asked.
+pub fn tell_run(rt: &HostRuntime, files: &mut Files, run: &Run) -> io::Result<()> {
     if run.each_fault {
         tell_each_fault(rt, files, run)
+    } else if run.each_front {
+        tell_each_front(rt, files, run)
     } else {
-        tell(rt, files, run, run.shelf, run.sink)
+        let end = tell(rt, files, run, run.shelf, run.sink)?;
+        keep(files, run, &end)
     }
+}
+
+// Keeps what was written as a file, where this is asked.
+fn keep(files: &mut Files, run: &Run, end: &End) -> io::Result<()> {
+    let Some(name) = &run.into else {
+        return Ok(());
+    };
+    files.begin(name.as_str())?;
+    if let Ok(text) = str::from_utf8(end.sink.bytes()) {
+        files.add_unended(text)?;
+    }
+    Ok(())
 }
 
 // Runs, and writes what came of it: the bytes that were written, the line on standard error, in
@@ -22,8 +38,9 @@ fn tell(
     run: &Run,
     shelf: Option<u64>,
     sink: Option<u64>,
-) -> io::Result<()> {
-    let mut end = end_of(rt, files, run, shelf, sink)?;
+) -> io::Result<End> {
+    let entries = entries_of(rt, files, run)?;
+    let mut end = end_of(rt.alloc(), entries, run, shelf, sink)?;
     tell_bytes(rt, run, end.sink.bytes())?;
     let line = end.status.line();
     print!(rt; "{line}")?;
@@ -33,14 +50,16 @@ fn tell(
         println!(rt; "{text}")?;
     }
     let code = end.status.code();
-    println!(rt; "exit {code}")
+    println!(rt; "exit {code}")?;
+    Ok(end)
 }
 
 // Runs with the first call of the shelf failing, then with the second, until a run has no such call,
 // then so with the calls of the sink, and then with none.
 fn tell_each_fault(rt: &HostRuntime, files: &Files, run: &Run) -> io::Result<()> {
     for call in 1..u64::MAX {
-        let end = end_of(rt, files, run, Some(call), None)?;
+        let entries = entries_of(rt, files, run)?;
+        let end = end_of(rt.alloc(), entries, run, Some(call), None)?;
         if end.status != Status::ReadFault {
             break;
         }
@@ -48,7 +67,8 @@ fn tell_each_fault(rt: &HostRuntime, files: &Files, run: &Run) -> io::Result<()>
         tell(rt, files, run, Some(call), None)?;
     }
     for call in 1..u64::MAX {
-        let end = end_of(rt, files, run, None, Some(call))?;
+        let entries = entries_of(rt, files, run)?;
+        let end = end_of(rt.alloc(), entries, run, None, Some(call))?;
         if end.status != Status::WriteFault {
             break;
         }
@@ -56,7 +76,34 @@ fn tell_each_fault(rt: &HostRuntime, files: &Files, run: &Run) -> io::Result<()>
         tell(rt, files, run, None, Some(call))?;
     }
     println!(rt; "none")?;
-    tell(rt, files, run, None, None)
+    tell(rt, files, run, None, None)?;
+    Ok(())
+}
+
+// Runs with no byte of the last file, then with the first, and so on to the whole file. A length is
+// told with its status line where the length before has another.
+fn tell_each_front(rt: &HostRuntime, files: &Files, run: &Run) -> io::Result<()> {
+    let Some(last) = entries_of(rt, files, run)?.pop() else {
+        return println!(rt; "no file");
+    };
+    let mut before = None;
+    for length in 0..last.bytes.len() + 1 {
+        let mut entries = entries_of(rt, files, run)?;
+        entries.pop();
+        let front = last.bytes.as_slice()[..length].to_vec(rt.alloc())?;
+        entries.push(FileEntry {
+            name: Word::from_string(String::from_str(rt.alloc(), last.name.as_str())?),
+            bytes: Bytes::from_vec(front),
+        })?;
+        let status = end_of(rt.alloc(), entries, run, None, None)?.status;
+        if before != Some(status) {
+            let line = status.line();
+            println!(rt; "front {length}")?;
+            print!(rt; "{line}")?;
+        }
+        before = Some(status);
+    }
+    Ok(())
 }
 
 /// The end of a run.
@@ -67,21 +114,25 @@ struct End {
     sink: MemSink,
 }
 
-// How a run ends where these calls fail.
-fn end_of(
-    rt: &HostRuntime,
-    files: &Files,
-    run: &Run,
-    shelf: Option<u64>,
-    sink: Option<u64>,
-) -> io::Result<End> {
-    let alloc = rt.alloc();
-    let mut entries = Vec::new(alloc);
+// The files that the words of a run name.
+fn entries_of(rt: &HostRuntime, files: &Files, run: &Run) -> io::Result<Vec<FileEntry>> {
+    let mut entries = Vec::new(rt.alloc());
     for word in &run.words {
         if let Some(entry) = files.entry(rt, word.as_str())? {
             entries.push(entry)?;
         }
     }
+    Ok(entries)
+}
+
+// How a run over these files ends where these calls fail.
+fn end_of(
+    alloc: Global,
+    entries: Vec<FileEntry>,
+    run: &Run,
+    shelf: Option<u64>,
+    sink: Option<u64>,
+) -> Result<End, AllocError> {
     let mut shelf = MemShelf::make(entries, failing(alloc, shelf)?);
     let mut sink = MemSink::make(alloc, failing(alloc, sink)?);
     let status = span(alloc, run.words.as_slice(), &mut shelf, &mut sink);
@@ -101,8 +152,12 @@ fn failing(alloc: Global, call: Option<u64>) -> Result<Vec<u64>, AllocError> {
     Ok(calls)
 }
 
-// Writes the bytes of a run, without the lines of trees where this is asked.
+// Writes the bytes of a run, without the lines of trees where this is asked, or nothing of them where
+// they become a file.
 fn tell_bytes(rt: &HostRuntime, run: &Run, bytes: &[u8]) -> io::Result<()> {
+    if run.into.is_some() {
+        return Ok(());
+    }
     let Ok(text) = str::from_utf8(bytes) else {
         return println!(rt; "bytes that are no UTF-8");
     };

@@ -1,2 +1,6 @@
 pub mod Commands
+pub mod WholeFiles
+pub mod WorldFiles
 pub mod Endings
+pub mod Auditing
+pub mod Generating

@@ -1,8 +1,10 @@
 -- What the whole program does.
 use Rattle.std.specs.Prelude.{◌≡◌, ℕ, List, Option, Some, None}
 use Rattle.span_base.specs.Files.{Files}
-use Rattle.span_top.specs.Words.{Asked, a_plan, unserved, command_of}
+use Rattle.span_top.specs.Words.{Asked, a_plan, an_audit, a_run_of, unserved, command_of}
 use Rattle.span_top.specs.Planned.{PlanEnds, TakesNothing}
+use Rattle.span_top.specs.Audited.{AuditEnds}
+use Rattle.span_top.specs.Generated.{GenEnds}
 use Rattle.span_top.specs.Codes.{code_of}
 use Rattle.span_top.specs.declared.status.Status.{Status}
 use Rattle.span_top.specs.declared.status.Status.TheVariants.{Usage, NotBuilt}
@@ -12,6 +14,8 @@ abbrev pub Ends : Option Asked → Option Files → Option (List ℕ) → Option
 Ends None files old new status = (status ≡ Usage) × TakesNothing old new
 Ends (Some unserved) files old new status = (status ≡ NotBuilt 0) × TakesNothing old new
 Ends (Some (a_plan name)) files old new status = PlanEnds files name old new status
+Ends (Some (an_audit name)) files old new status = AuditEnds files name old new status
+Ends (Some (a_run_of calls)) files old new status = GenEnds calls old new status
 
 -- how a run of these words ends over files, and what the sink took
 abbrev pub SpanEnds : List (List ℕ) → Option Files → Option (List ℕ) → Option (List ℕ) → Status → Type 0

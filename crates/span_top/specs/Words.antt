@@ -5,9 +5,12 @@ use Rattle.span_base.specs.Number.{is_number, number_of}
 use Rattle.span_top.specs.declared.command.Command.{Command}
 use Rattle.span_top.specs.declared.command.Command.TheVariants as command
 
--- what the words ask for: a plan of the world in a named file, or a command that isn't served yet
+-- what the words ask for: a plan of the world in a named file;
+-- the audit of the log in a named file; a run of so many calls; or a command that isn't served yet
 pub data Asked : Type 0 where
   a_plan : List ℕ → Asked
+  an_audit : List ℕ → Asked
+  a_run_of : ℕ → Asked
   unserved : Asked
 
 -- a file's name is any word that isn't empty
@@ -18,27 +21,37 @@ is_file word = nat_lt 0 (length word)
 abbrev pub is_between : ℕ → ℕ → List ℕ → Bool
 is_between low high word = is_number word && (nat_le low (number_of word) && nat_le (number_of word) high)
 
+-- the number that a word is, where it is one from the one to the other
+abbrev pub number_between : ℕ → ℕ → List ℕ → Option ℕ
+number_between low high word = if is_between low high word then Some (number_of word) else None
+
 -- this is asked, where the words are right
 abbrev pub asked_where : Bool → Asked → Option Asked
 asked_where right asked = if right then Some asked else None
 
--- the words `gen N`, `replay SCHEDULE`, `audit LOG` and `loop SCRIPT`
+-- the words `replay SCHEDULE` and `loop SCRIPT`
 abbrev pub is_short_command : List ℕ → List ℕ → Bool
-is_short_command word last =
-    if bytes_eq word (codes "gen") then is_between 0 20000 last
-    else ((bytes_eq word (codes "replay") || (bytes_eq word (codes "audit") || bytes_eq word (codes "loop"))) && is_file last)
+is_short_command word last = (bytes_eq word (codes "replay") || bytes_eq word (codes "loop")) && is_file last
+
+-- a run of so many calls, where it is one
+abbrev pub run_within : Option ℕ → Option Asked
+run_within None = None
+run_within (Some calls) = Some (a_run_of calls)
+
+-- what two words ask for: `plan WORLD`, `audit LOG`, `gen N` with at most 20,000 calls, or a command
+-- that isn't served yet
+abbrev pub short_command : List ℕ → List ℕ → Option Asked
+short_command word last =
+    if bytes_eq word (codes "plan") then asked_where (is_file last) (a_plan last)
+    else if bytes_eq word (codes "audit") then asked_where (is_file last) (an_audit last)
+    else if bytes_eq word (codes "gen") then run_within (number_between 0 20000 last)
+    else asked_where (is_short_command word last) unserved
 
 -- the words `plan WORLD BUDGET` and `check WORLD PLAN`
 abbrev pub is_long_command : List ℕ → List ℕ → List ℕ → Bool
 is_long_command word world last =
     if bytes_eq word (codes "plan") then is_file world && is_between 1 1000000000 last
     else (bytes_eq word (codes "check") && (is_file world && is_file last))
-
--- what two words ask for: `plan WORLD`, or a command that isn't served yet
-abbrev pub short_command : List ℕ → List ℕ → Option Asked
-short_command word last =
-    if bytes_eq word (codes "plan") then asked_where (is_file last) (a_plan last)
-    else asked_where (is_short_command word last) unserved
 
 -- what the words ask for, or None where they are those of no command
 abbrev pub command_of : List (List ℕ) → Option Asked
@@ -51,4 +64,6 @@ command_of (word ∷ world ∷ last ∷ next ∷ more) = None
 -- what a command asks for
 abbrev pub asked_by : Command → Asked
 asked_by (command.Plan world) = a_plan world.now
+asked_by (command.Audit log) = an_audit log.now
+asked_by (command.Gen calls) = a_run_of calls
 asked_by command.Unserved = unserved

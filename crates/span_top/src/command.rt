@@ -1,5 +1,5 @@
-ghost use Rattle.std.specs.Prelude.{◌≡◌, option_map};
-ghost use Rattle.span_top.specs.Words.{is_between, is_file, a_plan, unserved, asked_where, is_short_command, is_long_command, short_command, command_of, asked_by};
+ghost use Rattle.std.specs.Prelude.{◌≡◌, if◌then◌else◌, option_map, None, IfSome, ◌≤◌};
+ghost use Rattle.span_top.specs.Words.{number_between, is_file, a_plan, an_audit, a_run_of, unserved, run_within, asked_where, is_short_command, short_command, is_long_command, command_of, asked_by};
 
 use span_base::{Word, read_number};
 
@@ -8,14 +8,20 @@ use span_base::{Word, read_number};
 pub enum Command<'a> {
     /// `plan WORLD`: a plan of the world in the file of this name.
     Plan { world: &'a str },
+    /// `audit LOG`: the audit of the log in the file of this name.
+    Audit { log: &'a str },
+    /// `gen N`: a run of so many calls whose events are drawn.
+    Gen { calls: u32 },
     /// A command that isn't served yet.
     Unserved,
 }
 
 /// The greatest number of calls that `gen` makes.
-const MOST_CALLS: u128 = 20_000;
-/// The greatest number of tree lines that a plan may ask for, per set.
-const MOST_LINES: u128 = 1_000_000_000;
+const MOST_CALLS: u64 = 20_000;
+/// The greatest number of tree lines a set that a plan may ask for, and the number where none is asked.
+const MOST_LINES: u64 = 1_000_000_000;
+
+const USUAL_LINES: u64 = 1_000_000;
 
 /// The command of these words, or None where they are those of no command.
 pub fn command_of(words: &[Word]) -> Option<Command<'_>>
@@ -34,6 +40,12 @@ fn short_command<'a>(word: &str, last: &'a Word) -> Option<Command<'a>>
     if word == "plan" {
         return plan_command(last);
     }
+    if word == "audit" {
+        return audit_command(last);
+    }
+    if word == "gen" {
+        return gen_command(last);
+    }
     unserved_where(is_short_command(word, last))
 }
 
@@ -48,6 +60,37 @@ fn plan_command(world: &Word) -> Option<Command<'_>>
     Some(Command::Plan { world })
 }
 
+// The command to audit a log, where its file has a name.
+fn audit_command(log: &Word) -> Option<Command<'_>>
+    ensures { option_map asked_by result ≡ asked_where (is_file log.now) (an_audit log.now) }
+{
+    if log.is_empty() {
+        return None;
+    }
+    let log = log.as_str();
+    Some(Command::Audit { log })
+}
+
+// The command to run so many calls, where the word is their number.
+fn gen_command<'a>(calls: &Word) -> Option<Command<'a>>
+    ensures { option_map asked_by result ≡ run_within (number_between 0 20000 calls.now) }
+{
+    let calls = number_between(0, MOST_CALLS, calls)?;
+    Some(Command::Gen {
+        calls: calls as u32,
+    })
+}
+
+fn is_long_command(word: &str, world: &Word, last: &Word) -> bool
+    ensures { result ≡ is_long_command word.now world.now last.now }
+{
+    if word == "plan" {
+        !world.is_empty() && number_between(1, MOST_LINES, last).is_some()
+    } else {
+        word == "check" && !world.is_empty() && !last.is_empty()
+    }
+}
+
 // A command that isn't served yet, where the words are right.
 fn unserved_where<'a>(right: bool) -> Option<Command<'a>>
     ensures { option_map asked_by result ≡ asked_where right unserved }
@@ -58,29 +101,17 @@ fn unserved_where<'a>(right: bool) -> Option<Command<'a>>
 fn is_short_command(word: &str, last: &Word) -> bool
     ensures { result ≡ is_short_command word.now last.now }
 {
-    if word == "gen" {
-        is_between(0, MOST_CALLS, last)
-    } else {
-        (word == "replay" || word == "audit" || word == "loop") && !last.is_empty()
-    }
-}
-
-fn is_long_command(word: &str, world: &Word, last: &Word) -> bool
-    ensures { result ≡ is_long_command word.now world.now last.now }
-{
-    if word == "plan" {
-        !world.is_empty() && is_between(1, MOST_LINES, last)
-    } else {
-        word == "check" && !world.is_empty() && !last.is_empty()
-    }
+    (word == "replay" || word == "loop") && !last.is_empty()
 }
 
 #[tactic(auto, using(crate::proofs::Commands::words))]
-fn is_between(low: u128, high: u128, word: &Word) -> bool
-    ensures { result ≡ is_between low high word.now }
+fn number_between(low: u64, high: u64, word: &Word) -> Option<u64>
+    ensures number { result ≡ number_between low high word.now }
+    ensures within { IfSome result (λ number. number ≤ high) }
 {
-    match read_number(word.as_bytes(), high) {
-        Ok(number) => low <= number,
-        Err(_) => false,
-    }
+    let Ok(number) = read_number(word.as_bytes(), u128::from(high)) else {
+        return None;
+    };
+    let number = number as u64;
+    if low <= number { Some(number) } else { None }
 }

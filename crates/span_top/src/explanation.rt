@@ -1,6 +1,6 @@
-use crate::plan_command::{WORLD_BYTES, names_toml};
 use crate::status::Status;
-use crate::texts::{asked_by_cause, asked_by_limit};
+use crate::texts::{asked_by_cause, asked_by_clause, asked_by_limit};
+use crate::world_file::{WORLD_BYTES, names_toml};
 use span_base::{Cause, Shelf, Word, read_whole};
 use std::alloc::{AllocError, Global};
 use world_text::table_place;
@@ -29,7 +29,7 @@ pub fn explain<S: Shelf>(
             match cause {
                 // Only the end shows these.
                 Cause::Link | Cause::Members => write!(text, "{name}: after the last record: ")?,
-                _ => write_place(alloc, &mut text, shelf, name, *line)?,
+                _ => write_place(alloc, &mut text, shelf, words, *file, *line)?,
             }
             text.push_str(asked_by_cause(*cause))?;
         }
@@ -40,6 +40,10 @@ pub fn explain<S: Shelf>(
                 "no policy meets the goals of set {number}, counted from 0; the plan is written whole"
             )?;
         }
+        Status::Refused { line, cause } => {
+            let asked = asked_by_clause(*cause);
+            write!(text, "line {line} is refused: {asked}")?;
+        }
         Status::ReadFault => text.push_str("a file couldn't be read")?,
         Status::WriteFault => text.push_str("the output couldn't be written")?,
         Status::TooLarge {
@@ -48,7 +52,7 @@ pub fn explain<S: Shelf>(
             what,
             number,
         } => {
-            write_place(alloc, &mut text, shelf, file_name(words, *file), *line)?;
+            write_place(alloc, &mut text, shelf, words, *file, *line)?;
             let asked = asked_by_limit(*what);
             write!(text, "{number} is too large: {asked}")?;
         }
@@ -69,17 +73,23 @@ fn file_name(words: &[Word], file: u8) -> &str {
     }
 }
 
-// Adds the name of a file and the record at a line of it. Line 0 is the whole file.
+// Adds the name of a file and the record, or the line of a log, at a line of it. Line 0 is the whole
+// file.
 fn write_place<S: Shelf>(
     alloc: Global,
     text: &mut String,
     shelf: &mut S,
-    name: &str,
+    words: &[Word],
+    file: u8,
     line: u64,
 ) -> Result<(), AllocError> {
+    let name = file_name(words, file);
     write!(text, "{name}: ")?;
     if line == 0 {
         return Ok(());
+    }
+    if is_audit(words) {
+        return write!(text, "line {line}: ");
     }
     if names_toml(name) {
         if let Ok(bytes) = read_whole(alloc, shelf, name, WORLD_BYTES) {
@@ -90,4 +100,12 @@ fn write_place<S: Shelf>(
         }
     }
     write!(text, "record {line}: ")
+}
+
+// Whether the words ask for the audit of a log.
+fn is_audit(words: &[Word]) -> bool {
+    match words.first() {
+        Some(word) => word.as_str() == "audit",
+        None => false,
+    }
 }

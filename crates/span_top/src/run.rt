@@ -3,14 +3,16 @@ ghost use Rattle.span_base.specs.Counts.{Rose};
 ghost use Rattle.span_top.specs.Words.{command_of};
 ghost use Rattle.span_top.specs.Spans.{SpanEnds};
 
+use crate::audit_command::audit_log;
 use crate::command::{Command, command_of};
+use crate::gen_command::generate_calls;
 use crate::plan_command::plan;
 use crate::status::Status;
 use span_base::{Shelf, Sink, Word};
 use std::alloc::Global;
 
 /// Does what the words ask, with files from the shelf and the output to the sink.
-#[tactic(auto, using(crate::proofs::Endings::not_usage))]
+#[tactic(auto, using(crate::proofs::Endings::not_usage, crate::proofs::Auditing::never_usage, crate::proofs::Generating::gen_never))]
 pub fn span<S: Shelf, K: Sink>(alloc: Global, words: &[Word], shelf: &mut S, out: &mut K) -> Status
     ensures ends { SpanEnds words.now (S.files shelf.old) (K.taken out.old) (K.taken out.new) result }
     ensures usage { (result ≡ Status.Usage) ↔ (command_of words.now ≡ None) }
@@ -24,6 +26,8 @@ pub fn span<S: Shelf, K: Sink>(alloc: Global, words: &[Word], shelf: &mut S, out
     match command_of(words) {
         None => Status::Usage,
         Some(Command::Unserved) => Status::NotBuilt { line: 0 },
+        Some(Command::Audit { log }) => audit_log(alloc, log, shelf, out),
+        Some(Command::Gen { calls }) => generate_calls(alloc, calls, out),
         Some(Command::Plan { world }) => plan(alloc, world, shelf, out),
     }
 }

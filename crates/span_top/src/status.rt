@@ -24,6 +24,12 @@ pub enum Status {
     NoPolicy {
         set: SetId,
     },
+    /// A log isn't one of single registers: this line, counted from 1, is the first that breaks a
+    /// clause, told by its cause.
+    Refused {
+        line: u64,
+        cause: Cause,
+    },
     /// A file can't be read.
     ReadFault,
     /// The output can't be written.
@@ -56,6 +62,7 @@ impl Status {
             Status::Absent { .. } => 3,
             Status::BadInput { .. } => 4,
             Status::NoPolicy { .. } => 5,
+            Status::Refused { .. } => 7,
             Status::ReadFault => 9,
             Status::WriteFault => 10,
             Status::TooLarge { .. } => 12,
@@ -97,6 +104,7 @@ impl fmt::Display for Status {
                 write!(f, "BadInput {file} {line} {}", cause.word())
             }
             Status::NoPolicy { set } => write!(f, "NoPolicy {}", set.0),
+            Status::Refused { line, cause } => write!(f, "Refused {line} {}", cause.word()),
             Status::ReadFault => f.write_str("ReadFault"),
             Status::WriteFault => f.write_str("WriteFault"),
             Status::TooLarge {

@@ -1,6 +1,6 @@
 use span_base::{Cause, What};
 
-/// What is asked of a world where a record, or the whole text, is refused for this cause. The causes
+/// What is asked of a file where a record or line, or the whole text, is refused for this cause. The causes
 /// of other files have their word alone.
 pub fn asked_by_cause(cause: Cause) -> &'static str {
     match cause {
@@ -22,11 +22,34 @@ pub fn asked_by_cause(cause: Cause) -> &'static str {
         Cause::Key => {
             "the top keys are span and the arrays of tables dc, link, set and use; a table has just the keys of its kind, each with its kind of value"
         }
+        Cause::Syntax => "a line is of a form that is allowed at its place",
         other => other.word(),
     }
 }
 
-/// What is asked of a world where a number passes this limit. The limits of other files have their
+/// What is asked of a log where a line breaks the clause of this cause. The causes of other files have
+/// their word alone.
+pub fn asked_by_clause(cause: Cause) -> &'static str {
+    match cause {
+        Cause::Call =>
+            "a call begins with its proxy's next number, then draws its tickets, then ends once",
+        Cause::Kind =>
+            "a ticket is drawn by a write or a put, and a reply is one that the call's kind has",
+        Cause::Stamp => {
+            "a ticket is its call's own and above its earlier ones, and a write or put answers its latest"
+        }
+        Cause::Value => {
+            "a read gives the value of a ticket in an earlier line, or the empty one with stamp zero"
+        }
+        Cause::Dead => "no read gives the ticket of a write that ended without effect",
+        Cause::Order => {
+            "a call that began after another was answered takes effect after it, and a write once"
+        }
+        other => other.word(),
+    }
+}
+
+/// What is asked of a file where a number passes this limit. The limits of other files have their
 /// word alone.
 pub fn asked_by_limit(what: What) -> &'static str {
     match what {
@@ -40,7 +63,9 @@ pub fn asked_by_limit(what: What) -> &'static str {
         What::Sets => "a world has at most 1,000 sets",
         What::Members => "a set has at most 8 members",
         What::Providers => "a set asks for at most 16 providers",
-        What::Bytes => "the file of a world has at most 16,777,216 bytes",
+        What::Bytes =>
+            "the file of a world has at most 16,777,216 bytes, that of a log 268,435,456",
+        What::Lines => "a log has at most 4,000,000 lines",
         other => other.word(),
     }
 }
