@@ -1,8 +1,8 @@
-pub mod Plain
-pub mod WellFormed
-pub mod Closing
-pub mod Ends
+pub mod Lower
+pub mod PartEnds
+pub mod Telling
+pub mod Endings
+pub mod Trees
+pub mod Searched
 pub mod Parts
-pub mod PartLaws
-pub mod Fronts
-pub mod PlanTexts
+pub mod Sets

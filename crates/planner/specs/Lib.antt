@@ -1,6 +1,3 @@
-pub mod Parts
-pub mod PlanText
-pub mod Plans
+pub mod Ends
 pub mod Writes
-pub mod Search
-pub mod PlanLaws
+pub mod Trees

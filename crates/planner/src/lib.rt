@@ -1,11 +1,17 @@
-//! Plans: for each set of a world the policy of least cost, with a tree that shows it least.
+//! Plans: for each set of a world the policy of least cost, with a tree that shows it least, or a
+//! search cut off at a budget of lines.
+//!
+//! Each line is written as the search gives it. The memory is that of the largest set's search,
+//! whatever the number of sets.
 #![tactic(auto)]
 
-mod laws;
+mod ends;
 mod part;
+mod pen;
 mod plan;
-mod search;
-mod text;
+#[cfg(test)]
+mod tests;
+mod tree;
 
-pub use laws::plan_texts_are_told_apart;
-pub use plan::{PlanEnd, PlanFault, is_served, plan_all};
+pub use ends::{PlanEnd, PlanFault, SetEnd};
+pub use plan::{plan_all, plan_set};

@@ -26,15 +26,16 @@ const HELP: &str = "\
 Places the replicas of data sets in data centres at the least cost, with a proof of it.
 
 usage:
-  span plan WORLD    plans the world in a file, and writes the plan
-  span audit LOG     judges the log in a file, and writes what it has
-  span gen N         runs N calls whose events are drawn, 0 to 20,000, and writes how they ended
-  span --help        writes this text
-  span --version     writes the version
+  span plan WORLD [BUDGET]  plans the world in a file, and writes the plan
+  span audit LOG            judges the log in a file, and writes what it has
+  span gen N                runs N calls whose events are drawn, 0 to 20,000, and writes how they ended
+  span --help               writes this text
+  span --version            writes the version
 
-A world is read as TOML where the file's name ends in .toml, else as CSV.
-The exit status is 0 where the plan is complete, the log breaks no clause, or the run was made. Any
-other is told on standard error.
+A world is read as TOML where the file's name ends in .toml, else as CSV. The search for a set's
+policy may write BUDGET lines, from 1 to 1,000,000,000; without the word 1,000,000.
+The exit status is 0 where the plan is complete, or the log breaks no clause. Any other is told on
+standard error.
 ";
 
 fn main(rt: HostRuntime) -> ExitCode {

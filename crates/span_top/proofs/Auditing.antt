@@ -51,6 +51,7 @@ ends_unread files name old status.Usage refused = absurd refused
 ends_unread files name old (status.Absent file) refused = (refused.0, refused.1, refl)
 ends_unread files name old (status.BadInput file line cause) refused = absurd refused
 ends_unread files name old (status.NoPolicy set) refused = absurd refused
+ends_unread files name old (status.Budget set) refused = absurd refused
 ends_unread files name old (status.Refused line cause) refused = absurd refused
 ends_unread files name old status.ReadFault refused = refl
 ends_unread files name old status.WriteFault refused = absurd refused

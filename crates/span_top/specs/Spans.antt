@@ -13,7 +13,7 @@ use Rattle.span_top.specs.declared.status.Status.TheVariants.{Usage, NotBuilt}
 abbrev pub Ends : Option Asked → Option Files → Option (List ℕ) → Option (List ℕ) → Status → Type 0
 Ends None files old new status = (status ≡ Usage) × TakesNothing old new
 Ends (Some unserved) files old new status = (status ≡ NotBuilt 0) × TakesNothing old new
-Ends (Some (a_plan name)) files old new status = PlanEnds files name old new status
+Ends (Some (a_plan name budget)) files old new status = PlanEnds files name budget old new status
 Ends (Some (an_audit name)) files old new status = AuditEnds files name old new status
 Ends (Some (a_run_of calls)) files old new status = GenEnds calls old new status
 

@@ -5,10 +5,10 @@ use Rattle.span_base.specs.Number.{is_number, number_of}
 use Rattle.span_top.specs.declared.command.Command.{Command}
 use Rattle.span_top.specs.declared.command.Command.TheVariants as command
 
--- what the words ask for: a plan of the world in a named file;
+-- what the words ask for: a plan of the world in a named file, with at most so many tree lines a set;
 -- the audit of the log in a named file; a run of so many calls; or a command that isn't served yet
 pub data Asked : Type 0 where
-  a_plan : List ℕ → Asked
+  a_plan : List ℕ → ℕ → Asked
   an_audit : List ℕ → Asked
   a_run_of : ℕ → Asked
   unserved : Asked
@@ -38,32 +38,37 @@ abbrev pub run_within : Option ℕ → Option Asked
 run_within None = None
 run_within (Some calls) = Some (a_run_of calls)
 
--- what two words ask for: `plan WORLD`, `audit LOG`, `gen N` with at most 20,000 calls, or a command
+-- what two words ask for: `plan WORLD`, with 1,000,000 tree lines a set, `audit LOG`, `gen N` with at most 20,000 calls, or a command
 -- that isn't served yet
 abbrev pub short_command : List ℕ → List ℕ → Option Asked
 short_command word last =
-    if bytes_eq word (codes "plan") then asked_where (is_file last) (a_plan last)
+    if bytes_eq word (codes "plan") then asked_where (is_file last) (a_plan last 1000000)
     else if bytes_eq word (codes "audit") then asked_where (is_file last) (an_audit last)
     else if bytes_eq word (codes "gen") then run_within (number_between 0 20000 last)
     else asked_where (is_short_command word last) unserved
 
--- the words `plan WORLD BUDGET` and `check WORLD PLAN`
-abbrev pub is_long_command : List ℕ → List ℕ → List ℕ → Bool
-is_long_command word world last =
-    if bytes_eq word (codes "plan") then is_file world && is_between 1 1000000000 last
-    else (bytes_eq word (codes "check") && (is_file world && is_file last))
+-- a plan with this budget, where it is one
+abbrev pub plan_within : List ℕ → Option ℕ → Option Asked
+plan_within world None = None
+plan_within world (Some budget) = Some (a_plan world budget)
+
+-- what three words ask for: `plan WORLD BUDGET` with a budget of 1 to 1,000,000,000, or `check WORLD PLAN`
+abbrev pub long_command : List ℕ → List ℕ → List ℕ → Option Asked
+long_command word world last =
+    if bytes_eq word (codes "plan") then (if is_file world then plan_within world (number_between 1 1000000000 last) else None)
+    else asked_where (bytes_eq word (codes "check") && (is_file world && is_file last)) unserved
 
 -- what the words ask for, or None where they are those of no command
 abbrev pub command_of : List (List ℕ) → Option Asked
 command_of [] = None
 command_of (word ∷ []) = None
 command_of (word ∷ last ∷ []) = short_command word last
-command_of (word ∷ world ∷ last ∷ []) = asked_where (is_long_command word world last) unserved
+command_of (word ∷ world ∷ last ∷ []) = long_command word world last
 command_of (word ∷ world ∷ last ∷ next ∷ more) = None
 
 -- what a command asks for
 abbrev pub asked_by : Command → Asked
-asked_by (command.Plan world) = a_plan world.now
+asked_by (command.Plan world budget) = a_plan world.now budget
 asked_by (command.Audit log) = an_audit log.now
 asked_by (command.Gen calls) = a_run_of calls
 asked_by command.Unserved = unserved

@@ -1,13 +1,14 @@
 ghost use Rattle.std.specs.Prelude.{◌≡◌, if◌then◌else◌, option_map, None, IfSome, ◌≤◌};
-ghost use Rattle.span_top.specs.Words.{number_between, is_file, a_plan, an_audit, a_run_of, unserved, run_within, asked_where, is_short_command, short_command, is_long_command, command_of, asked_by};
+ghost use Rattle.span_top.specs.Words.{number_between, is_file, a_plan, an_audit, a_run_of, unserved, run_within, asked_where, is_short_command, short_command, long_command, plan_within, command_of, asked_by};
 
 use span_base::{Word, read_number};
 
 /// What the words of the command line ask for.
 #[derive(Clone, Copy, Debug)]
 pub enum Command<'a> {
-    /// `plan WORLD`: a plan of the world in the file of this name.
-    Plan { world: &'a str },
+    /// `plan WORLD [BUDGET]`: a plan of the world in the file of this name, with at most so many
+    /// tree lines a set.
+    Plan { world: &'a str, budget: u64 },
     /// `audit LOG`: the audit of the log in the file of this name.
     Audit { log: &'a str },
     /// `gen N`: a run of so many calls whose events are drawn.
@@ -29,7 +30,7 @@ pub fn command_of(words: &[Word]) -> Option<Command<'_>>
 {
     match words {
         [word, last] => short_command(word.as_str(), last),
-        [word, world, last] => unserved_where(is_long_command(word.as_str(), world, last)),
+        [word, world, last] => long_command(word.as_str(), world, last),
         _ => None,
     }
 }
@@ -49,15 +50,18 @@ fn short_command<'a>(word: &str, last: &'a Word) -> Option<Command<'a>>
     unserved_where(is_short_command(word, last))
 }
 
-// The command to plan a world, where its file has a name.
+// The command to plan a world with the usual budget, where its file has a name.
 fn plan_command(world: &Word) -> Option<Command<'_>>
-    ensures { option_map asked_by result ≡ asked_where (is_file world.now) (a_plan world.now) }
+    ensures { option_map asked_by result ≡ asked_where (is_file world.now) (a_plan world.now 1000000) }
 {
     if world.is_empty() {
         return None;
     }
     let world = world.as_str();
-    Some(Command::Plan { world })
+    Some(Command::Plan {
+        world,
+        budget: USUAL_LINES,
+    })
 }
 
 // The command to audit a log, where its file has a name.
@@ -81,14 +85,25 @@ fn gen_command<'a>(calls: &Word) -> Option<Command<'a>>
     })
 }
 
-fn is_long_command(word: &str, world: &Word, last: &Word) -> bool
-    ensures { result ≡ is_long_command word.now world.now last.now }
+fn long_command<'a>(word: &str, world: &'a Word, last: &'a Word) -> Option<Command<'a>>
+    ensures { option_map asked_by result ≡ long_command word.now world.now last.now }
 {
     if word == "plan" {
-        !world.is_empty() && number_between(1, MOST_LINES, last).is_some()
-    } else {
-        word == "check" && !world.is_empty() && !last.is_empty()
+        return plan_within(world, last);
     }
+    unserved_where(word == "check" && !world.is_empty() && !last.is_empty())
+}
+
+// The command to plan a world with a budget, where its file has a name and the budget is one.
+fn plan_within<'a>(world: &'a Word, budget: &Word) -> Option<Command<'a>>
+    ensures { option_map asked_by result ≡ (if is_file world.now then plan_within world.now (number_between 1 1000000000 budget.now) else None) }
+{
+    if world.is_empty() {
+        return None;
+    }
+    let world = world.as_str();
+    let budget = number_between(1, MOST_LINES, budget)?;
+    Some(Command::Plan { world, budget })
 }
 
 // A command that isn't served yet, where the words are right.

@@ -40,6 +40,13 @@ pub fn explain<S: Shelf>(
                 "no policy meets the goals of set {number}, counted from 0; the plan is written whole"
             )?;
         }
+        Status::Budget { set } => {
+            let number = set.0;
+            write!(
+                text,
+                "the search for set {number}, counted from 0, was cut off at the budget of tree lines; the plan is written whole, with the best policy found"
+            )?;
+        }
         Status::Refused { line, cause } => {
             let asked = asked_by_clause(*cause);
             write!(text, "line {line} is refused: {asked}")?;

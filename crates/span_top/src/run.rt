@@ -28,6 +28,6 @@ pub fn span<S: Shelf, K: Sink>(alloc: Global, words: &[Word], shelf: &mut S, out
         Some(Command::Unserved) => Status::NotBuilt { line: 0 },
         Some(Command::Audit { log }) => audit_log(alloc, log, shelf, out),
         Some(Command::Gen { calls }) => generate_calls(alloc, calls, out),
-        Some(Command::Plan { world }) => plan(alloc, world, shelf, out),
+        Some(Command::Plan { world, budget }) => plan(alloc, world, budget, shelf, out),
     }
 }

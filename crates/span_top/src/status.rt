@@ -24,6 +24,11 @@ pub enum Status {
     NoPolicy {
         set: SetId,
     },
+    /// The plan is written, and the search for the policy of this set, the first such, was cut off
+    /// at the budget of tree lines.
+    Budget {
+        set: SetId,
+    },
     /// A log isn't one of single registers: this line, counted from 1, is the first that breaks a
     /// clause, told by its cause.
     Refused {
@@ -62,6 +67,7 @@ impl Status {
             Status::Absent { .. } => 3,
             Status::BadInput { .. } => 4,
             Status::NoPolicy { .. } => 5,
+            Status::Budget { .. } => 6,
             Status::Refused { .. } => 7,
             Status::ReadFault => 9,
             Status::WriteFault => 10,
@@ -104,6 +110,7 @@ impl fmt::Display for Status {
                 write!(f, "BadInput {file} {line} {}", cause.word())
             }
             Status::NoPolicy { set } => write!(f, "NoPolicy {}", set.0),
+            Status::Budget { set } => write!(f, "Budget {}", set.0),
             Status::Refused { line, cause } => write!(f, "Refused {line} {}", cause.word()),
             Status::ReadFault => f.write_str("ReadFault"),
             Status::WriteFault => f.write_str("WriteFault"),

@@ -1,0 +1,4 @@
+pub mod Parts
+pub mod PlanText
+pub mod Plans
+pub mod PlanLaws

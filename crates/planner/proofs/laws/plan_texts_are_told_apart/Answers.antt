@@ -1,5 +1,0 @@
-use Rattle.planner.proofs.PlanTexts.{plans_told}
-use Rattle.planner.proofs.laws.plan_texts_are_told_apart.Goals as goal
-
-pub returns : goal.returns
-returns c = plans_told

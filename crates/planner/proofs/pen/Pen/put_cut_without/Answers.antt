@@ -1,0 +1,9 @@
+use Rattle.planner.proofs.Telling.{told_before, told_line}
+use Rattle.planner.proofs.pen.Pen.put_cut_without.Goals as goal
+
+pub returns-in_err-push_cut-clause-tells : goal.returns-in_err-push_cut-clause-tells
+returns-in_err-push_cut-clause-tells g c from text said = told_before _ _ _ _ _ _ _ c.from_residual.ensures.0 said
+
+pub returns-clause-tells : goal.returns-clause-tells
+returns-clause-tells g c from text said =
+    told_line _ _ _ _ _ _ _ _ _ c.clear.ensures.bytes c.in_ok-push_cut.ensures c.deref.ensures (c.put_line.ensures.tells from text (rw c.self.view_is said))
