@@ -38,7 +38,7 @@ digits_one (c ∷ text) h =
     let other : (c == 10) ≡ false = ne_eqb c 10 (λ e. let P : ℕ → Type 0 = λ d. digit_value d < 10 in let f : digit_value 10 < 10 = subst P e h.0 in omega arith) in
     ap (λ b. (if b then false else true) && list_all no_feed text) other ∙ digits_one text h.1
 
-number_one : (n : ℕ) → n < 10 ^ 64 → OneLine (decimal n)
+pub number_one : (n : ℕ) → n < 10 ^ 64 → OneLine (decimal n)
 number_one n low = digits_one (decimal n) (decimal_is_IsNumeral_wide n low).0.1
 
 small_one : (n : ℕ) → n < 10 ^ 38 → OneLine (decimal n)
@@ -54,7 +54,7 @@ pairs_one (pair ∷ pairs) low =
     (small_one pair.mult here.1))
     (pairs_one pairs (All-tail IsSpellablePair pair pairs low))
 
-line_one : (line : Line) → IsSpellable line → OneLine (line_text line)
+pub line_one : (line : Line) → IsSpellable line → OneLine (line_text line)
 line_one (Branch var) low = one_append (codes "b ") (decimal var) refl (small_one var low)
 line_one (Close end) low =
     one_append (codes "l " ++ decimal end.s) (pairs_text end.pairs)
@@ -62,7 +62,7 @@ line_one (Close end) low =
     (pairs_one end.pairs low.1)
 
 -- two texts that begin with a line each: the lines are equal, and what follows them
-heads : (l m a b : List ℕ) → OneLine l → OneLine m → l ++ 10 ∷ a ≡ m ++ 10 ∷ b → (l ≡ m) × (a ≡ b)
+pub heads : (l m a b : List ℕ) → OneLine l → OneLine m → l ++ 10 ∷ a ≡ m ++ 10 ∷ b → (l ≡ m) × (a ≡ b)
 heads l m a b one one' e =
     let lines : l ∷ cut a ≡ m ∷ cut b = sym (line_cut l a one) ∙ ap cut e ∙ line_cut m b one' in
     let same : l ≡ m = cc in
@@ -70,19 +70,19 @@ heads l m a b one one' e =
     (same, same_after (m ++ codes "\n") a b (append_assoc m (codes "\n") a ∙ rest ∙ sym (append_assoc m (codes "\n") b)))
 
 -- a tree's line and what follows it
-line_first : (line : Line) (lines : List Line) (rest : List ℕ) → tree_text (line ∷ lines) ++ rest ≡ line_text line ++ 10 ∷ (tree_text lines ++ rest)
+pub line_first : (line : Line) (lines : List Line) (rest : List ℕ) → tree_text (line ∷ lines) ++ rest ≡ line_text line ++ 10 ∷ (tree_text lines ++ rest)
 line_first line lines rest = append_assoc (tree_line line) (tree_text lines) rest ∙ append_assoc (line_text line) (codes "\n") (tree_text lines ++ rest)
 
 -- two bytes, one below the other
-differ : (a b : ℕ) → a ≡ b → a < b → ⊥
+pub differ : (a b : ℕ) → a ≡ b → a < b → ⊥
 differ a b same below = omega arith
 
 -- a result begins otherwise than a line of a tree
-no_result : (line : Line) (rest result : List ℕ) → slice_index result 0 ≡ 114 → line_text line ++ rest ≡ result → ⊥
+pub no_result : (line : Line) (rest result : List ℕ) → slice_index result 0 ≡ 114 → line_text line ++ rest ≡ result → ⊥
 no_result (Branch var) rest result is e = differ 98 114 (ap (λ (t : List ℕ). slice_index t 0) e ∙ is) (lit< tt)
 no_result (Close end) rest result is e = differ 108 114 (ap (λ (t : List ℕ). slice_index t 0) e ∙ is) (lit< tt)
 
-tree_told : (ls ms : List Line) (a b : List ℕ) → All IsSpellable ls → All IsSpellable ms → slice_index a 0 ≡ 114 → slice_index b 0 ≡ 114 → tree_text ls ++ a ≡ tree_text ms ++ b → (ls ≡ ms) × (a ≡ b)
+pub tree_told : (ls ms : List Line) (a b : List ℕ) → All IsSpellable ls → All IsSpellable ms → slice_index a 0 ≡ 114 → slice_index b 0 ≡ 114 → tree_text ls ++ a ≡ tree_text ms ++ b → (ls ≡ ms) × (a ≡ b)
 tree_told [] [] a b low low' is is' e = (refl, e)
 tree_told [] (m ∷ ms) a b low low' is is' e = absurd (no_result m (10 ∷ (tree_text ms ++ b)) a is (sym (line_first m ms b) ∙ sym e))
 tree_told (l ∷ ls) [] a b low low' is is' e = absurd (no_result l (10 ∷ (tree_text ls ++ a)) b is' (sym (line_first l ls a) ∙ e))
@@ -117,13 +117,13 @@ all_small program goal (node ∷ nodes) closed =
     (small_at program goal node.fixed node.line (All-head (IsClosed program goal) node nodes closed))
     (all_small program goal nodes (All-tail (IsClosed program goal) node nodes closed))
 
-proof_small : (program : Contents) (goal : Goal) (lines : List Line) → IsProof program lines goal → All HasSmallMultipliers lines
+pub proof_small : (program : Contents) (goal : Goal) (lines : List Line) → IsProof program lines goal → All HasSmallMultipliers lines
 proof_small program goal lines proof =
     All-same HasSmallMultipliers lines (map (λ (node : Node). node.line) (nodes_of (all_free program) proof.tree))
     (proof.whole ∙ sym (node_lines (all_free program) proof.tree))
     (all_small program goal (nodes_of (all_free program) proof.tree) proof.closed)
 
-spellable : (line : Line) → HasSmallMultipliers line → IsWithinRanges line → IsSpellable line
+pub spellable : (line : Line) → HasSmallMultipliers line → IsWithinRanges line → IsSpellable line
 spellable (Branch var) small within = let h : var ≤ 65535 = within in lt_of_lt_of_le (let k : var < 65536 = omega arith in k) (lit≤ tt)
 spellable (Close end) small within = (
   lt_of_lt_of_le (let h = within.0 in let k : end.s < 4294967296 = omega arith in k) (lit≤ tt),
@@ -133,22 +133,22 @@ spellable (Close end) small within = (
   ),
 )
 
-all_spellable : (lines : List Line) → All HasSmallMultipliers lines → All IsWithinRanges lines → All IsSpellable lines
+pub all_spellable : (lines : List Line) → All HasSmallMultipliers lines → All IsWithinRanges lines → All IsSpellable lines
 all_spellable lines small within = λ k d inside. spellable (slice_index_or lines k d) (small k d inside) (within k d inside)
 
 -- costs of equal texts are equal
-one_cost : (a b : ℕ) → a < 2 ^ 128 → b < 2 ^ 128 → decimal a ≡ decimal b → a ≡ b
+pub one_cost : (a b : ℕ) → a < 2 ^ 128 → b < 2 ^ 128 → decimal a ≡ decimal b → a ≡ b
 one_cost a b low low' e =
     sym ((decimal_is_IsNumeral_wide a (lt_of_lt_of_le low (lit≤ tt))).1) ∙ ap (digits_value 10) e ∙ (decimal_is_IsNumeral_wide b (lt_of_lt_of_le low' (lit≤ tt))).1
 
 -- what follows equal results is equal, and the results are
-cost_first : (cost : ℕ) (rest : List ℕ) → cost_line cost ++ rest ≡ codes "result complete " ++ (decimal cost ++ 10 ∷ rest)
+pub cost_first : (cost : ℕ) (rest : List ℕ) → cost_line cost ++ rest ≡ codes "result complete " ++ (decimal cost ++ 10 ∷ rest)
 cost_first cost rest = append_assoc (codes "result complete " ++ decimal cost) (codes "\n") rest ∙ append_assoc (codes "result complete ") (decimal cost) (codes "\n" ++ rest)
 
-complete_first : (w : Lists) (n cost : ℕ) (p : Policy) (rest : List ℕ) → ending_text w n (complete cost p) ++ rest ≡ codes "result complete " ++ (decimal cost ++ 10 ∷ (policy_text w p ++ rest))
+pub complete_first : (w : Lists) (n cost : ℕ) (p : Policy) (rest : List ℕ) → ending_text w n (complete cost p) ++ rest ≡ codes "result complete " ++ (decimal cost ++ 10 ∷ (policy_text w p ++ rest))
 complete_first w n cost p rest = append_assoc (cost_line cost) (policy_text w p) rest ∙ cost_first cost (policy_text w p ++ rest)
 
-apart : (w : Lists) (n m cost : ℕ) (p : Policy) (a b : List ℕ) → ending_text w n (complete cost p) ++ a ≡ ending_text w m none_allowed ++ b → ⊥
+pub apart : (w : Lists) (n m cost : ℕ) (p : Policy) (a b : List ℕ) → ending_text w n (complete cost p) ++ a ≡ ending_text w m none_allowed ++ b → ⊥
 apart w n m cost p a b e = differ 99 110 (ap (λ (t : List ℕ). slice_index t 7) (sym (complete_first w n cost p a) ∙ e)) (lit< tt)
 
 ending_told : (w : Lists) → IsComplete w → IsNamed w → (set : ℕ) → set < length w.sets → (n m : ℕ) (x y : Ending) → FitsSet w set x → FitsSet w set y → FitsEnding x → FitsEnding y
@@ -173,7 +173,7 @@ cut_begins : (n : ℕ) (rest : List ℕ) → slice_index (cut_words n ++ rest) 0
 unfolding cut_words
 cut_begins n rest = refl
 
-begins_result : (w : Lists) (n : ℕ) (x : Ending) (rest : List ℕ) → slice_index (ending_text w n x ++ rest) 0 ≡ 114
+pub begins_result : (w : Lists) (n : ℕ) (x : Ending) (rest : List ℕ) → slice_index (ending_text w n x ++ rest) 0 ≡ 114
 begins_result w n (complete c p) rest = ap (λ t. slice_index t 0) (complete_first w n c p rest)
 begins_result w n none_allowed rest = refl
 begins_result w n (cut_off found) rest =
@@ -183,12 +183,12 @@ begins_result w n (cut_off found) rest =
     ∙ append_assoc (cut_words n) (found_cost (cost_of found)) (codes "\n" ++ (found_text w found ++ rest)))
     ∙ cut_begins n (found_cost (cost_of found) ++ (codes "\n" ++ (found_text w found ++ rest)))
 
-part_first : (w : Lists) (set : ℕ) (part : Part) (rest : List ℕ) → part_text w set part ++ rest ≡ set_line w set (length (program_of w set).costs) ++ (tree_text part.lines ++ (ending_text w (length part.lines) part.ending ++ rest))
+pub part_first : (w : Lists) (set : ℕ) (part : Part) (rest : List ℕ) → part_text w set part ++ rest ≡ set_line w set (length (program_of w set).costs) ++ (tree_text part.lines ++ (ending_text w (length part.lines) part.ending ++ rest))
 part_first w set part rest =
     let first : List ℕ = set_line w set (length (program_of w set).costs) in
     append_assoc (first ++ tree_text part.lines) (ending_text w (length part.lines) part.ending) rest ∙ append_assoc first (tree_text part.lines) (ending_text w (length part.lines) part.ending ++ rest)
 
-part_spellable : (w : Lists) (set : ℕ) (part : Part) → IsAcceptedPart w set part → FitsPart part → All IsSpellable part.lines
+pub part_spellable : (w : Lists) (set : ℕ) (part : Part) → IsAcceptedPart w set part → FitsPart part → All IsSpellable part.lines
 part_spellable w set part ok fit = all_spellable part.lines (proof_small (program_of w set) (goal_of part.ending) part.lines ok.shown) fit.lines
 
 part_told : (w : Lists) → IsComplete w → IsNamed w → (set : ℕ) → set < length w.sets → (x y : Part) → IsAcceptedPart w set x → IsAcceptedPart w set y → FitsPart x → FitsPart y
@@ -201,7 +201,7 @@ part_told w whole named set there x y ok ok' fit fit' a b e =
     ((λ i. record { lines = trees.0 i; ending = ends.0 i }), ends.1)
 
 -- a fact of each part from a set on
-abbrev EachFrom : (ℕ → Part → Type 0) → ℕ → List Part → Type 0
+abbrev pub EachFrom : (ℕ → Part → Type 0) → ℕ → List Part → Type 0
 EachFrom P set [] = Unit {0}
 EachFrom P set (part ∷ parts) = P set part × EachFrom P (set + 1) parts
 
@@ -213,7 +213,7 @@ each_from P set (part ∷ parts) each =
       each_from P (set + 1) parts (λ i p e. let there : set + suc i ≡ (set + 1) + i = omega arith in subst (λ (n : ℕ). P n p) there (each (suc i) p e)),
     )
 
-each_all : (P : ℕ → Part → Type 0) (parts : List Part) → EachPart P parts → EachFrom P 0 parts
+pub each_all : (P : ℕ → Part → Type 0) (parts : List Part) → EachPart P parts → EachFrom P 0 parts
 each_all P parts each = each_from P 0 parts (λ i part e. let same : i ≡ 0 + i = omega arith in subst (λ (n : ℕ). P n part) same (each i part e))
 
 parts_told : (w : Lists) → IsComplete w → IsNamed w → (set : ℕ) (xs ys : List Part) → set + length xs ≡ length w.sets → set + length ys ≡ length w.sets

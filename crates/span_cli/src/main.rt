@@ -27,6 +27,8 @@ Places the replicas of data sets in data centres at the least cost, with a proof
 
 usage:
   span plan WORLD [BUDGET]  plans the world in a file, and writes the plan
+  span check WORLD PLAN     checks the plan in a file against a world, and writes what it shows
+  span replay SCHEDULE      runs the schedule in a file, and writes what its clients see
   span audit LOG            judges the log in a file, and writes what it has
   span gen N                runs N calls whose events are drawn, 0 to 20,000, and writes how they ended
   span --help               writes this text
@@ -34,8 +36,8 @@ usage:
 
 A world is read as TOML where the file's name ends in .toml, else as CSV. The search for a set's
 policy may write BUDGET lines, from 1 to 1,000,000,000; without the word 1,000,000.
-The exit status is 0 where the plan is complete, or the log breaks no clause. Any other is told on
-standard error.
+The exit status is 0 where the plan is complete or accepted, the whole schedule was run, or the log
+breaks no clause. Any other is told on standard error.
 ";
 
 fn main(rt: HostRuntime) -> ExitCode {

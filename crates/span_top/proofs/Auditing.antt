@@ -1,5 +1,5 @@
 -- How judging a log makes the endings of `audit`.
-use Rattle.std.proofs.Common.{◌≡◌, ℕ, ◌≤◌, inl, inr, List, length, Option, Ok, Err, refl, subst}
+use Rattle.std.proofs.Common.{arith, ◌≡◌, ℕ, ◌≤◌, inl, inr, List, length, Option, Ok, Err, refl, subst}
 use Rattle.span_base.specs.Files.{Files}
 use Rattle.span_base.specs.Taken.{Appends, AppendsFront}
 use Rattle.span_base.specs.declared.words.Cause.{Cause}
@@ -53,6 +53,7 @@ ends_unread files name old (status.BadInput file line cause) refused = absurd re
 ends_unread files name old (status.NoPolicy set) refused = absurd refused
 ends_unread files name old (status.Budget set) refused = absurd refused
 ends_unread files name old (status.Refused line cause) refused = absurd refused
+ends_unread files name old (status.BadEvent line cause) refused = absurd refused
 ends_unread files name old status.ReadFault refused = refl
 ends_unread files name old status.WriteFault refused = absurd refused
 ends_unread files name old (status.TooLarge file line what number) refused = (refused.0, inl refused.1, refl)
@@ -65,8 +66,14 @@ ends_read files name bytes old new s held ends = ends files name held.0 held.1
 pub never_usage : (files : Option Files) (name : List ℕ) (old new : Option (List ℕ)) (s : Status) → AuditEnds files name old new s → s ≡ status.Usage → ⊥
 never_usage files name old new s ends same = subst (AuditEnds files name old new) same ends
 
+-- nor that a second file isn't there
+pub never_second : (files : Option Files) (name : List ℕ) (old new : Option (List ℕ)) (s : Status) → AuditEnds files name old new s → s ≡ status.Absent 1 → ⊥
+never_second files name old new s ends same = absurd (let h : 1 ≡ 0 = (subst (AuditEnds files name old new) same ends).0 in omega (arith, h))
+
 pub ruleset written = (ends_told, ends_unwritten, ends_short, ends_in_want)
 
 pub ruleset judged = (ends_in_want, ends_bad, ends_above, ends_broken)
 
 pub ruleset ends = (ends_unread, ends_read)
+
+pub ruleset never = (never_usage, never_second)

@@ -1,5 +1,5 @@
 -- How planning a world makes the endings of `plan`.
-use Rattle.std.proofs.Common.{◌≡◌, ℕ, ◌⊎◌, inl, inr, List, Option, Ok, refl, subst}
+use Rattle.std.proofs.Common.{◌≡◌, ℕ, ◌⊎◌, inl, inr, List, Option, Ok, refl, subst, arith}
 use Rattle.span_base.specs.Files.{Files}
 use Rattle.span_base.specs.declared.ids.SetId.{SetId}
 use Rattle.workload.specs.World.{Lists}
@@ -41,6 +41,7 @@ ends_unread files name budget old (status.BadInput file line cause) refused = (r
 ends_unread files name budget old (status.NoPolicy set) refused = absurd refused
 ends_unread files name budget old (status.Budget set) refused = absurd refused
 ends_unread files name budget old (status.Refused line cause) refused = absurd refused
+ends_unread files name budget old (status.BadEvent line cause) refused = absurd refused
 ends_unread files name budget old status.ReadFault refused = (refused, refl)
 ends_unread files name budget old status.WriteFault refused = absurd refused
 ends_unread files name budget old (status.TooLarge file line what number) refused = (refused, refl)
@@ -50,4 +51,10 @@ ends_unread files name budget old (status.NotBuilt line) refused = absurd refuse
 pub not_usage : (files : Option Files) (name : List ℕ) (budget : ℕ) (old new : Option (List ℕ)) (s : Status) → PlanEnds files name budget old new s → s ≡ status.Usage → ⊥
 not_usage files name budget old new s ends same = absurd ((subst (PlanEnds files name budget old new) same ends).0)
 
+-- nor that a second file isn't there
+pub plans_second : (files : Option Files) (name : List ℕ) (budget : ℕ) (old new : Option (List ℕ)) (s : Status) → PlanEnds files name budget old new s → s ≡ status.Absent 1 → ⊥
+plans_second files name budget old new s ends same = absurd (let h : 1 ≡ 0 = (subst (PlanEnds files name budget old new) same ends).0.0 in omega (arith, h))
+
 pub ruleset plans = (ends_done, ends_without, ends_cut, ends_unwritten, ends_in_want, ends_unread)
+
+pub ruleset never = (not_usage, plans_second)

@@ -28,6 +28,11 @@ gen_never calls old new s ends = (
   λ same. subst (GenEnds calls old new) same ends,
 )
 
+pub gen_second : (calls : ℕ) (old new : Option (List ℕ)) (s : Status) → GenEnds calls old new s → s ≡ status.Absent 1 → ⊥
+gen_second calls old new s ends same = subst (GenEnds calls old new) same ends
+
 pub ruleset written = (gen_told, gen_unwritten, gen_short, gen_in_want)
 
 pub ruleset ends = (gen_in_want, gen_never)
+
+pub ruleset never = (gen_never, gen_second)

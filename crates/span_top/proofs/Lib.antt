@@ -4,3 +4,5 @@ pub mod WorldFiles
 pub mod Endings
 pub mod Auditing
 pub mod Generating
+pub mod Replaying
+pub mod Checking

@@ -45,6 +45,7 @@ reads_none files name (status.BadInput file line cause) refused = absurd refused
 reads_none files name (status.NoPolicy set) refused = absurd refused
 reads_none files name (status.Budget set) refused = absurd refused
 reads_none files name (status.Refused line cause) refused = absurd refused
+reads_none files name (status.BadEvent line cause) refused = absurd refused
 reads_none files name status.ReadFault refused = tt
 reads_none files name status.WriteFault refused = absurd refused
 reads_none files name (status.TooLarge file line what number) refused = (refused.0, inl refused.1)

@@ -14,7 +14,7 @@ use Rattle.history_audit.specs.Texts.{Bad, Limit, log_says}
 use Rattle.history_audit.specs.Audited.{IsUnbroken, IsBroken}
 use Rattle.span_top.specs.declared.status.Status.{Status}
 use Rattle.span_top.specs.declared.status.Status.TheVariants.{Done, NoMemory, Absent, BadInput, Refused, ReadFault, WriteFault, TooLarge}
-use Rattle.span_top.specs.WholeFile.{Holds, Lacks, IsBytesLimit}
+use Rattle.span_top.specs.WholeFile.{Holds, Lacks, FileIs, IsBytesLimit}
 use Rattle.span_top.specs.Planned.{TakesNothing}
 
 -- the lines that tell of a log without a break
@@ -32,11 +32,8 @@ cause_of clause.Dead = cause.Dead
 cause_of clause.Order = cause.Order
 
 -- the named file has at most 268,435,456 bytes, and this holds of them
-pub record LogIs (files : Option Files) (name : List ℕ) (Is : List ℕ → Type 0) : Type 0 where
-  pub bytes : List ℕ
-  pub held : Holds files name bytes
-  pub within : length bytes ≤ 268435456
-  pub is : Is bytes
+abbrev pub LogIs : Option Files → List ℕ → (List ℕ → Type 0) → Type 0
+LogIs files name Is = FileIs files name 268435456 Is
 
 -- the bytes are a log that breaks no clause, and this was taken of the text on it
 abbrev pub IsTold : (List ℕ → Type 0) → List ℕ → Type 0

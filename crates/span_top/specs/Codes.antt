@@ -1,7 +1,7 @@
 -- The exit status of each ending.
 use Rattle.std.specs.Prelude.{ℕ}
 use Rattle.span_top.specs.declared.status.Status.{Status}
-use Rattle.span_top.specs.declared.status.Status.TheVariants.{Done, NoMemory, Usage, Absent, BadInput, NoPolicy, Budget, Refused, ReadFault, WriteFault, TooLarge, NotBuilt}
+use Rattle.span_top.specs.declared.status.Status.TheVariants.{Done, NoMemory, Usage, Absent, BadInput, NoPolicy, Budget, Refused, BadEvent, ReadFault, WriteFault, TooLarge, NotBuilt}
 
 -- the number with which the program ends
 abbrev pub code_of : Status → ℕ
@@ -13,6 +13,7 @@ code_of (BadInput file line cause) = 4
 code_of (NoPolicy set) = 5
 code_of (Budget set) = 6
 code_of (Refused line cause) = 7
+code_of (BadEvent line cause) = 8
 code_of ReadFault = 9
 code_of WriteFault = 10
 code_of (TooLarge file line what number) = 12

@@ -5,4 +5,6 @@ pub mod WorldFile
 pub mod Planned
 pub mod Audited
 pub mod Generated
+pub mod Replayed
+pub mod Checked
 pub mod Spans

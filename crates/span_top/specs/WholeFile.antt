@@ -22,6 +22,13 @@ pub record IsLonger (files : Option Files) (name : List ℕ) (limit : ℕ) : Typ
   pub held : Holds files name bytes
   pub above : limit < length bytes
 
+-- the named file has at most so many bytes, and this holds of them
+pub record FileIs (files : Option Files) (name : List ℕ) (limit : ℕ) (Is : List ℕ → Type 0) : Type 0 where
+  pub bytes : List ℕ
+  pub held : Holds files name bytes
+  pub within : length bytes ≤ limit
+  pub is : Is bytes
+
 -- the limit on a file's bytes is passed: it is told as line 0 and the number one above
 pub record IsBytesLimit (files : Option Files) (name : List ℕ) (limit line : ℕ) (what : What) (number : ℕ) : Type 0 where
   pub line_is : line ≡ 0

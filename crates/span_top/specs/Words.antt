@@ -6,9 +6,12 @@ use Rattle.span_top.specs.declared.command.Command.{Command}
 use Rattle.span_top.specs.declared.command.Command.TheVariants as command
 
 -- what the words ask for: a plan of the world in a named file, with at most so many tree lines a set;
--- the audit of the log in a named file; a run of so many calls; or a command that isn't served yet
+-- the check of a plan of a world, both in named files; the run of the schedule in a named file; the audit of the log in a named file;
+-- a run of so many calls; or a command that isn't served yet
 pub data Asked : Type 0 where
   a_plan : List ℕ → ℕ → Asked
+  a_check : List ℕ → List ℕ → Asked
+  a_replay : List ℕ → Asked
   an_audit : List ℕ → Asked
   a_run_of : ℕ → Asked
   unserved : Asked
@@ -29,20 +32,21 @@ number_between low high word = if is_between low high word then Some (number_of 
 abbrev pub asked_where : Bool → Asked → Option Asked
 asked_where right asked = if right then Some asked else None
 
--- the words `replay SCHEDULE` and `loop SCRIPT`
+-- the words `loop SCRIPT`
 abbrev pub is_short_command : List ℕ → List ℕ → Bool
-is_short_command word last = (bytes_eq word (codes "replay") || bytes_eq word (codes "loop")) && is_file last
+is_short_command word last = bytes_eq word (codes "loop") && is_file last
 
 -- a run of so many calls, where it is one
 abbrev pub run_within : Option ℕ → Option Asked
 run_within None = None
 run_within (Some calls) = Some (a_run_of calls)
 
--- what two words ask for: `plan WORLD`, with 1,000,000 tree lines a set, `audit LOG`, `gen N` with at most 20,000 calls, or a command
+-- what two words ask for: `plan WORLD`, with 1,000,000 tree lines a set, `replay SCHEDULE`, `audit LOG`, `gen N` with at most 20,000 calls, or a command
 -- that isn't served yet
 abbrev pub short_command : List ℕ → List ℕ → Option Asked
 short_command word last =
     if bytes_eq word (codes "plan") then asked_where (is_file last) (a_plan last 1000000)
+    else if bytes_eq word (codes "replay") then asked_where (is_file last) (a_replay last)
     else if bytes_eq word (codes "audit") then asked_where (is_file last) (an_audit last)
     else if bytes_eq word (codes "gen") then run_within (number_between 0 20000 last)
     else asked_where (is_short_command word last) unserved
@@ -56,7 +60,7 @@ plan_within world (Some budget) = Some (a_plan world budget)
 abbrev pub long_command : List ℕ → List ℕ → List ℕ → Option Asked
 long_command word world last =
     if bytes_eq word (codes "plan") then (if is_file world then plan_within world (number_between 1 1000000000 last) else None)
-    else asked_where (bytes_eq word (codes "check") && (is_file world && is_file last)) unserved
+    else asked_where (bytes_eq word (codes "check") && (is_file world && is_file last)) (a_check world last)
 
 -- what the words ask for, or None where they are those of no command
 abbrev pub command_of : List (List ℕ) → Option Asked
@@ -70,5 +74,7 @@ command_of (word ∷ world ∷ last ∷ next ∷ more) = None
 abbrev pub asked_by : Command → Asked
 asked_by (command.Plan world budget) = a_plan world.now budget
 asked_by (command.Audit log) = an_audit log.now
+asked_by (command.Check world plan) = a_check world.now plan.now
+asked_by (command.Replay schedule) = a_replay schedule.now
 asked_by (command.Gen calls) = a_run_of calls
 asked_by command.Unserved = unserved

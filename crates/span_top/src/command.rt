@@ -1,5 +1,6 @@
-ghost use Rattle.std.specs.Prelude.{◌≡◌, if◌then◌else◌, option_map, None, IfSome, ◌≤◌};
-ghost use Rattle.span_top.specs.Words.{number_between, is_file, a_plan, an_audit, a_run_of, unserved, run_within, asked_where, is_short_command, short_command, long_command, plan_within, command_of, asked_by};
+ghost use Rattle.std.specs.Prelude.{◌≡◌, if◌then◌else◌, option_map, None, IfSome, ◌≤◌, ◌&&◌, codes};
+ghost use Rattle.std.specs.Str.{bytes_eq};
+ghost use Rattle.span_top.specs.Words.{number_between, is_file, a_plan, a_check, a_replay, an_audit, a_run_of, unserved, run_within, asked_where, is_short_command, short_command, long_command, plan_within, command_of, asked_by};
 
 use span_base::{Word, read_number};
 
@@ -9,6 +10,10 @@ pub enum Command<'a> {
     /// `plan WORLD [BUDGET]`: a plan of the world in the file of this name, with at most so many
     /// tree lines a set.
     Plan { world: &'a str, budget: u64 },
+    /// `check WORLD PLAN`: the check of the plan in the one file against the world in the other.
+    Check { world: &'a str, plan: &'a str },
+    /// `replay SCHEDULE`: the run of the schedule in the file of this name.
+    Replay { schedule: &'a str },
     /// `audit LOG`: the audit of the log in the file of this name.
     Audit { log: &'a str },
     /// `gen N`: a run of so many calls whose events are drawn.
@@ -41,6 +46,9 @@ fn short_command<'a>(word: &str, last: &'a Word) -> Option<Command<'a>>
     if word == "plan" {
         return plan_command(last);
     }
+    if word == "replay" {
+        return replay_command(last);
+    }
     if word == "audit" {
         return audit_command(last);
     }
@@ -62,6 +70,17 @@ fn plan_command(world: &Word) -> Option<Command<'_>>
         world,
         budget: USUAL_LINES,
     })
+}
+
+// The command to run a schedule, where its file has a name.
+fn replay_command(schedule: &Word) -> Option<Command<'_>>
+    ensures { option_map asked_by result ≡ asked_where (is_file schedule.now) (a_replay schedule.now) }
+{
+    if schedule.is_empty() {
+        return None;
+    }
+    let schedule = schedule.as_str();
+    Some(Command::Replay { schedule })
 }
 
 // The command to audit a log, where its file has a name.
@@ -91,7 +110,19 @@ fn long_command<'a>(word: &str, world: &'a Word, last: &'a Word) -> Option<Comma
     if word == "plan" {
         return plan_within(world, last);
     }
-    unserved_where(word == "check" && !world.is_empty() && !last.is_empty())
+    check_command(word, world, last)
+}
+
+// The command to check a plan, where the word says so and both files have names.
+fn check_command<'a>(word: &str, world: &'a Word, plan: &'a Word) -> Option<Command<'a>>
+    ensures { option_map asked_by result ≡ asked_where (bytes_eq word.now (codes "check") && (is_file world.now && is_file plan.now)) (a_check world.now plan.now) }
+{
+    if word != "check" || world.is_empty() || plan.is_empty() {
+        return None;
+    }
+    let world = world.as_str();
+    let plan = plan.as_str();
+    Some(Command::Check { world, plan })
 }
 
 // The command to plan a world with a budget, where its file has a name and the budget is one.
@@ -116,7 +147,7 @@ fn unserved_where<'a>(right: bool) -> Option<Command<'a>>
 fn is_short_command(word: &str, last: &Word) -> bool
     ensures { result ≡ is_short_command word.now last.now }
 {
-    (word == "replay" || word == "loop") && !last.is_empty()
+    word == "loop" && !last.is_empty()
 }
 
 #[tactic(auto, using(crate::proofs::Commands::words))]

@@ -1,5 +1,5 @@
 use crate::status::Status;
-use crate::texts::{asked_by_cause, asked_by_clause, asked_by_limit};
+use crate::texts::{asked_by_cause, asked_by_clause, asked_by_event, asked_by_limit};
 use crate::world_file::{WORLD_BYTES, names_toml};
 use span_base::{Cause, Shelf, Word, read_whole};
 use std::alloc::{AllocError, Global};
@@ -50,6 +50,10 @@ pub fn explain<S: Shelf>(
         Status::Refused { line, cause } => {
             let asked = asked_by_clause(*cause);
             write!(text, "line {line} is refused: {asked}")?;
+        }
+        Status::BadEvent { line, cause } => {
+            let asked = asked_by_event(*cause);
+            write!(text, "the event in line {line} is refused: {asked}")?;
         }
         Status::ReadFault => text.push_str("a file couldn't be read")?,
         Status::WriteFault => text.push_str("the output couldn't be written")?,

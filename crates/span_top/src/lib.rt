@@ -2,10 +2,12 @@
 #![tactic(auto)]
 
 mod audit_command;
+mod check_command;
 mod command;
 mod explanation;
 mod gen_command;
 mod plan_command;
+mod replay_command;
 mod run;
 mod status;
 mod texts;

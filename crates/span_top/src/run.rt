@@ -4,20 +4,23 @@ ghost use Rattle.span_top.specs.Words.{command_of};
 ghost use Rattle.span_top.specs.Spans.{SpanEnds};
 
 use crate::audit_command::audit_log;
+use crate::check_command::check;
 use crate::command::{Command, command_of};
 use crate::gen_command::generate_calls;
 use crate::plan_command::plan;
+use crate::replay_command::replay_schedule;
 use crate::status::Status;
 use span_base::{Shelf, Sink, Word};
 use std::alloc::Global;
 
 /// Does what the words ask, with files from the shelf and the output to the sink.
-#[tactic(auto, using(crate::proofs::Endings::not_usage, crate::proofs::Auditing::never_usage, crate::proofs::Generating::gen_never))]
+#[tactic(auto, using(crate::proofs::Endings::never, crate::proofs::Auditing::never, crate::proofs::Generating::never, crate::proofs::Replaying::never, crate::proofs::Checking::checks_usage))]
 pub fn span<S: Shelf, K: Sink>(alloc: Global, words: &[Word], shelf: &mut S, out: &mut K) -> Status
     ensures ends { SpanEnds words.now (S.files shelf.old) (K.taken out.old) (K.taken out.new) result }
     ensures usage { (result ≡ Status.Usage) ↔ (command_of words.now ≡ None) }
     ensures read_fault { result ≡ Status.ReadFault → Rose (S.faults shelf.old) (S.faults shelf.new) }
     ensures absent { result ≡ Status.Absent 0 → Rose (S.absences shelf.old) (S.absences shelf.new) }
+    ensures absent_plan { result ≡ Status.Absent 1 → Rose (S.absences shelf.old) (S.absences shelf.new) }
     ensures write_fault { result ≡ Status.WriteFault → Rose (K.faults out.old) (K.faults out.new) }
     ensures faults_stay { S.faults shelf.old ≤ S.faults shelf.new }
     ensures absences_stay { S.absences shelf.old ≤ S.absences shelf.new }
@@ -27,6 +30,8 @@ pub fn span<S: Shelf, K: Sink>(alloc: Global, words: &[Word], shelf: &mut S, out
         None => Status::Usage,
         Some(Command::Unserved) => Status::NotBuilt { line: 0 },
         Some(Command::Audit { log }) => audit_log(alloc, log, shelf, out),
+        Some(Command::Check { world, plan }) => check(alloc, world, plan, shelf, out),
+        Some(Command::Replay { schedule }) => replay_schedule(alloc, schedule, shelf, out),
         Some(Command::Gen { calls }) => generate_calls(alloc, calls, out),
         Some(Command::Plan { world, budget }) => plan(alloc, world, budget, shelf, out),
     }

@@ -29,9 +29,15 @@ pub enum Status {
     Budget {
         set: SetId,
     },
-    /// A log isn't one of single registers: this line, counted from 1, is the first that breaks a
-    /// clause, told by its cause.
+    /// A plan isn't accepted, or a log isn't one of single registers: this line, counted from 1, is
+    /// refused for this cause, in a log the first clause that it breaks.
     Refused {
+        line: u64,
+        cause: Cause,
+    },
+    /// An event of a schedule, that of this line, is refused for this cause; the marks of the events
+    /// before it are written.
+    BadEvent {
         line: u64,
         cause: Cause,
     },
@@ -69,6 +75,7 @@ impl Status {
             Status::NoPolicy { .. } => 5,
             Status::Budget { .. } => 6,
             Status::Refused { .. } => 7,
+            Status::BadEvent { .. } => 8,
             Status::ReadFault => 9,
             Status::WriteFault => 10,
             Status::TooLarge { .. } => 12,
@@ -112,6 +119,7 @@ impl fmt::Display for Status {
             Status::NoPolicy { set } => write!(f, "NoPolicy {}", set.0),
             Status::Budget { set } => write!(f, "Budget {}", set.0),
             Status::Refused { line, cause } => write!(f, "Refused {line} {}", cause.word()),
+            Status::BadEvent { line, cause } => write!(f, "BadEvent {line} {}", cause.word()),
             Status::ReadFault => f.write_str("ReadFault"),
             Status::WriteFault => f.write_str("WriteFault"),
             Status::TooLarge {

@@ -27,7 +27,20 @@ pub fn asked_by_cause(cause: Cause) -> &'static str {
     }
 }
 
-/// What is asked of a log where a line breaks the clause of this cause. The causes of other files have
+/// What is asked of a schedule's event that is refused for this cause.
+pub fn asked_by_event(cause: Cause) -> &'static str {
+    match cause {
+        Cause::Actor => "the store has a proxy, or a replica, of this number",
+        Cause::Key => "the store has a key of this number",
+        Cause::Mode => "keys of strong sets are read and written, others got and put",
+        Cause::Message => "a message is delivered after it was sent",
+        Cause::Call =>
+            "a call is given up while it is live, and one that moves an eventual key in its first phase",
+        other => other.word(),
+    }
+}
+
+/// What is asked of a plan or a log where a line breaks the clause of this cause. The causes of other files have
 /// their word alone.
 pub fn asked_by_clause(cause: Cause) -> &'static str {
     match cause {

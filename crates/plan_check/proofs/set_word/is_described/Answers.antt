@@ -1,0 +1,17 @@
+use Rattle.span_base.specs.Number.{IsNumber}
+use Rattle.span_base.specs.Name.{IsName}
+use Rattle.plan_check.specs.Words.{IsModeWord, IsPairOf}
+use Rattle.plan_check.proofs.Forms.{pair_form, pair_nowhere, pair_tests, name_spaceless}
+use Rattle.plan_check.proofs.set_word.is_described.Goals as goal
+
+pub returns-then-is_name : goal.returns-then-is_name
+returns-then-is_name c =
+    let both = pair_tests IsName (IsPairOf IsModeWord IsNumber) c.is_name.result c.is_mode_and_count.result c.args.text.now c.in-Some.at name_spaceless c.in-Some.ensures c.is_name.ensures c.is_mode_and_count.ensures in
+    ((λ yes_is. both.0 c.if-is_name.true yes_is), (λ form. (both.1 form).1))
+
+pub returns-else-is_name : goal.returns-else-is_name
+returns-else-is_name c =
+    ((λ none. absurd (cc)), (λ form. let one = c.is_name.ensures.1 (pair_form IsName (IsPairOf IsModeWord IsNumber) c.args.text.now c.in-Some.at name_spaceless c.in-Some.ensures form).0 in absurd (cc (one, c.if-is_name.false))))
+
+pub returns-in-None : goal.returns-in-None
+returns-in-None c = ((λ none. absurd (cc)), (λ form. absurd (pair_nowhere IsName (IsPairOf IsModeWord IsNumber) c.args.text.now c.in-None.ensures form)))

@@ -1,0 +1,63 @@
+-- What reading a part of a plan gives: it is accepted, or its reading stops somewhere in it.
+use Rattle.std.specs.Prelude.{◌≡◌, ◌<◌, ◌^◌, ℕ, ◌+◌, List, [], ◌∷◌, ◌++◌, codes, length, Option, Some, None, Result, Ok, Err}
+use Rattle.span_base.specs.Files.{Files}
+use Rattle.span_base.specs.declared.policy.Policy.{Policy}
+use Rattle.zero_one.specs.Contents.{Contents}
+use Rattle.bound_cert.specs.declared.leaves.Line.{Line}
+use Rattle.bound_cert.specs.declared.leaves.Goal.{Goal}
+use Rattle.bound_cert.specs.declared.leaves.Goal.TheVariants as goal
+use Rattle.bound_cert.specs.Trees.{IsProof}
+use Rattle.cert_checker.specs.declared.faults.CertFault.{CertFault}
+use Rattle.cert_checker.specs.Lines.{IsRefused}
+use Rattle.cert_checker.specs.Fed.{Finishes}
+use Rattle.cert_checker.specs.Kept.{Kept, StandsFor}
+use Rattle.workload.specs.World.{Lists}
+use Rattle.slo_rules.specs.Rules.{IsAllowed}
+use Rattle.slo_rules.specs.Cost.{policy_cost}
+use Rattle.slo_rules.specs.PolicyText.{policy_text}
+use Rattle.slo_rules.specs.PolicyReading.{Draft, policy_of}
+use Rattle.plan_text.specs.Parts.{Part}
+use Rattle.plan_text.specs.PlanText.{cost_line}
+use Rattle.plan_text.specs.Plans.{begun_plan}
+use Rattle.plan_check.specs.declared.fault.CheckFault.{CheckFault}
+use Rattle.plan_check.specs.declared.lines.PlanLines.{PlanLines}
+use Rattle.plan_check.specs.declared.tree.Claim.{Claim}
+use Rattle.plan_check.specs.Refusals.{refusal_of}
+use Rattle.plan_check.specs.Reading.{HasRead, line_count}
+use Rattle.plan_check.specs.Places.{IsReadBack, program_at, policy_read, StopsInTree, StopsInPolicy, RefusesPolicy}
+
+-- a node that comes next is taken, or refused behind so many lines of the file
+abbrev pub TakesNode : Contents → List Line → ℕ → Line → Kept → Result (Unit {0}) CheckFault → Type 0
+TakesNode program tree before node after (Ok done) = StandsFor program (tree ++ node ∷ []) after
+TakesNode program tree before node after (Err fault) =
+    (cert : CertFault) × IsRefused program tree node cert × (fault ≡ refusal_of before (before + length tree + 1) cert)
+
+-- the lines are a proof, or are refused at the result
+abbrev pub ShowsGoal : Contents → List Line → ℕ → Goal → Result (Unit {0}) CheckFault → Type 0
+ShowsGoal program tree before claimed (Ok done) = IsProof program tree claimed
+ShowsGoal program tree before claimed (Err fault) =
+    (cert : CertFault) × Finishes program tree claimed (Err cert) × (fault ≡ refusal_of before (before + length tree + 1) cert) × ¬ IsProof program tree claimed
+
+-- what reading a tree and its result gives: a proof of a cost, or that there is no policy
+abbrev pub ReadsTree : Lists → Option Files → List ℕ → List Part → PlanLines → Result (Option Claim) CheckFault → Type 0
+ReadsTree w files name parts reader (Ok (Some claim)) =
+    (tree : List Line) × (claim.cost < 10 ^ 38) × IsProof (program_at w parts) tree (goal.Cost claim.cost)
+    × (claim.line ≡ line_count (begun_plan w parts tree) + 1) × HasRead files name (policy_read w parts tree claim.cost []) reader
+ReadsTree w files name parts reader (Ok None) =
+    (tree : List Line) × IsProof (program_at w parts) tree goal.Nothing
+    × HasRead files name (begun_plan w parts tree ++ codes "result none\n") reader
+ReadsTree w files name parts reader (Err fault) = (tree : List Line) × StopsInTree w files name parts tree fault
+
+-- a whole policy is allowed and costs what is said, or it is refused
+abbrev pub JudgesPolicy : Lists → ℕ → Claim → Draft → Result (Unit {0}) CheckFault → Type 0
+JudgesPolicy w set claim draft (Ok done) =
+    (p : Policy) × (policy_of w draft ≡ Some p) × IsAllowed w set p × (policy_cost w set p ≡ claim.cost)
+JudgesPolicy w set claim draft (Err fault) =
+    (p : Policy) × (policy_of w draft ≡ Some p) × RefusesPolicy w set claim.cost claim.line p fault
+
+-- what reading the lines of a policy gives
+abbrev pub ReadsPolicy : Lists → Option Files → List ℕ → List Part → List Line → ℕ → PlanLines → Result (Unit {0}) CheckFault → Type 0
+ReadsPolicy w files name parts tree cost reader (Ok done) =
+    (p : Policy) × IsAllowed w (length parts) p × (policy_cost w (length parts) p ≡ cost) × IsReadBack w (length parts) p
+    × HasRead files name (begun_plan w parts tree ++ cost_line cost ++ policy_text w p) reader
+ReadsPolicy w files name parts tree cost reader (Err fault) = StopsInPolicy w files name parts tree cost fault

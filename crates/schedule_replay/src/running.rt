@@ -1,0 +1,58 @@
+ghost use Rattle.std.specs.Prelude.{◌≡◌, ◌<◌, [], List, length, IfOk, IfSome, IsErrOf};
+ghost use Rattle.run_marks.specs.declared.mark.Mark.{Mark};
+ghost use Rattle.schedule_text.specs.Schedules.{Schedule};
+ghost use Rattle.schedule_replay.specs.Standing.{IsReady, Stands, Opens, Goes};
+
+use crate::fault::{ReplayFault, refused_at};
+use message_wire::{FrameWire, Wire};
+use replica_core::Replica;
+use schedule_text::laws::schedules_may_happen;
+use schedule_text::{Events, Form, Opening, read_schedule};
+use std::alloc::Global;
+use world_core::{Cloud, Marks};
+
+/// The run of a schedule under way: the store, and the events that are left.
+#[derive(Drop)]
+pub(crate) struct Running<'a> {
+    cloud: Cloud<FrameWire, Replica>,
+    events: Events<'a>,
+}
+
+impl<'a> Running<'a> {
+    /// The run of a text's schedule before its first event. The whole text is read for it.
+    pub(crate) fn open(alloc: Global, text: &'a [u8]) -> Result<Running<'a>, ReplayFault>
+        ensures opens { Opens text.now result }
+        ensures ready { IfOk result (λ running. IsReady running) }
+    {
+        let Opening { header, place } = read_schedule(alloc, text, Form::Plain)?;
+        schedules_may_happen();
+        let events = Events::make(place, text);
+        let cloud = Cloud::make(alloc, header, FrameWire::new(alloc))?;
+        Ok(Running { cloud, events })
+    }
+
+    /// The marks of the next event, or None behind the last. Behind an event that wasn't taken it
+    /// isn't asked again.
+    pub(crate) fn next(&mut self, alloc: Global) -> Result<Option<Marks>, ReplayFault>
+        requires ready { IsReady self.old }
+        ensures goes { (schedule : Schedule) (marks : List Mark) → Stands schedule self.old marks → Goes schedule marks self.new result }
+        ensures ready { IfOk result (λ _. IsReady self.new) }
+        ensures fewer { IfOk result (λ next. IfSome next (λ _. length self.new.events.events < length self.old.events.events)) }
+        ensures no_write { IsErrOf result ReplayFault.WriteFault → ⊥ }
+    {
+        let Some(event) = self.events.next(alloc)? else {
+            return Ok(None);
+        };
+        match self.cloud.step_in_memory(alloc, &event) {
+            Ok(marks) => Ok(Some(marks)),
+            Err(fault) => Err(refused_at(self.events.line(), fault)),
+        }
+    }
+
+    /// How many messages were sent.
+    pub(crate) fn messages(&self) -> u32
+        ensures { result ≡ length self.now.cloud.store.sent }
+    {
+        self.cloud.wire().sent()
+    }
+}

@@ -1,0 +1,35 @@
+ghost use Rattle.std.specs.Prelude.{◌≤◌, IsErrOf};
+ghost use Rattle.span_base.specs.Counts.{Rose};
+ghost use Rattle.schedule_replay.specs.Replays.{ReplayEnds};
+
+use crate::fault::ReplayFault;
+use crate::log::Log;
+use crate::running::Running;
+use span_base::Sink;
+use std::alloc::Global;
+
+/// Runs a schedule, and writes the text of the run as it comes. It answers how many messages were
+/// sent. The whole text is read first: nothing is written where it is no schedule. Where the run
+/// refuses an event, the marks of those before it are written, and its line is told.
+pub fn replay<K: Sink>(alloc: Global, text: &[u8], out: &mut K) -> Result<u32, ReplayFault>
+    ensures ends { ReplayEnds text.now (K.taken out.old) (K.taken out.new) result }
+    ensures faults_stay { K.faults out.old ≤ K.faults out.new }
+    ensures failed { IsErrOf result ReplayFault.WriteFault → Rose (K.faults out.old) (K.faults out.new) }
+{
+    let mut running = Running::open(alloc, text)?;
+    let mut log = Log::make(alloc)?;
+    loop {
+        match running.next(alloc) {
+            Ok(Some(marks)) => log.put(marks, out)?,
+            Ok(None) => {
+                let messages = running.messages();
+                log.close(messages, out)?;
+                return Ok(messages);
+            }
+            Err(fault) => {
+                log.flush(out)?;
+                return Err(fault);
+            }
+        }
+    }
+}

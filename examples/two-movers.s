@@ -1,0 +1,34 @@
+span-schedule 1
+replicas 3
+set strong 1 0/0,1,2/0,1,2 1/0,1,2/0,1,2
+key 0
+proxy 0
+proxy 1
+begin
+publish 0 strong 1 0/0,1,2/0,1,2 1/0,1,2/0,1,2
+move 0 0
+move 1 0
+deliver 0
+deliver 1
+deliver 2
+deliver 3
+deliver 4
+deliver 5
+deliver 10
+deliver 11
+deliver 12
+deliver 13
+deliver 15
+deliver 16
+deliver 17
+deliver 18
+deliver 8
+deliver 9
+deliver 19
+deliver 20
+deliver 22
+deliver 23
+deliver 24
+deliver 25
+deliver 26
+deliver 27
