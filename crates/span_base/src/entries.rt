@@ -31,8 +31,8 @@ pub(crate) fn find_file<'a>(files: &'a [FileEntry], name: &str) -> Option<&'a [u
     Some(file.bytes.as_slice())
 }
 
-// Copies what a file has from a place on, as far as there is room, and answers how much.
-pub(crate) fn copy_from(file: &[u8], at: u64, buf: &mut [u8]) -> usize
+/// Copies what a file has from a place on, as far as there is room, and answers how much.
+pub fn copy_from(file: &[u8], at: u64, buf: &mut [u8]) -> usize
     requires { 0 < length buf.old }
     ensures within { result ≤ length buf.new }
     ensures gives { GivesFrom file.now at buf.new result }

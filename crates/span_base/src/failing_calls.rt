@@ -3,9 +3,9 @@ ghost use Rattle.span_base.specs.Calls.{NextFails, after_call};
 
 use std::marker::Model;
 
-// The calls of an object in memory: which fail, how many there were, and how many failed.
+/// The calls of an object in memory: which fail, how many there were, and how many failed.
 #[derive(Debug, Drop)]
-pub(crate) struct FailingCalls {
+pub struct FailingCalls {
     failing: Vec<u64>,
     made: u64,
     faults: u64,
@@ -20,8 +20,9 @@ impl Model for FailingCalls {
 }
 
 impl FailingCalls {
-    // No calls so far. `failing` are the numbers of those that fail, counted from 1.
-    pub(crate) fn make(failing: Vec<u64>) -> FailingCalls
+    /// No calls so far. `failing` are the numbers of those that fail, counted from 1. Calls past
+    /// the end of a `u64` all have its last number.
+    pub fn make(failing: Vec<u64>) -> FailingCalls
         ensures { result ≡ record { failing = failing.items; made = 0; faults = 0 } }
     {
         FailingCalls {
@@ -31,8 +32,8 @@ impl FailingCalls {
         }
     }
 
-    // Counts one more call, and answers whether it fails.
-    pub(crate) fn next_fails(&mut self) -> bool
+    /// Counts one more call, and answers whether it fails.
+    pub fn next_fails(&mut self) -> bool
         ensures fails { IsTrue result ↔ NextFails self.old }
         ensures counted { self.new ≡ after_call self.old result }
     {
