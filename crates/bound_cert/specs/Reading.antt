@@ -20,10 +20,14 @@ abbrev pub IsSpellable : Line → Type 0
 IsSpellable (Branch var) = var < 10 ^ 38
 IsSpellable (Close end) = (end.s < 10 ^ 38) × All IsSpellablePair end.pairs
 
+-- the ROW is within its limit
+abbrev pub HasLowRow : Pair → Type 0
+HasLowRow pair = pair.row ≤ 65535
+
 -- the VAR, the S and each ROW of the line are within their limits
 abbrev pub IsWithinRanges : Line → Type 0
 IsWithinRanges (Branch var) = var ≤ 65535
-IsWithinRanges (Close end) = (end.s ≤ 4294967295) × All (λ pair. pair.row ≤ 65535) end.pairs
+IsWithinRanges (Close end) = (end.s ≤ 4294967295) × All HasLowRow end.pairs
 
 -- the text has the shape of a line: it is that of one whose numbers may be past their limits
 abbrev pub IsLineShape : List ℕ → Type 0

@@ -1,5 +1,5 @@
-ghost use Rattle.std.specs.Prelude.{◌≡◌, ◌≢◌, ◌≤◌, length, slice_index, take, codes};
-ghost use Rattle.bound_cert.specs.Reading.{ReadsLine, IsOutOfMemory, IsLongestNumber, FindsNumber, PassesByte};
+ghost use Rattle.std.specs.Prelude.{◌≡◌, ◌≢◌, ◌≤◌, IfOk, length, slice_index, take, codes};
+ghost use Rattle.bound_cert.specs.Reading.{ReadsLine, IsWithinRanges, IsOutOfMemory, IsLongestNumber, FindsNumber, PassesByte};
 
 use crate::leaves::{Leaf, Line, Pair};
 use span_base::{Listed, NUMBER_DIGITS, read_number};
@@ -43,6 +43,7 @@ struct Number {
 /// faults the first is told. A branch takes no memory.
 pub fn read_line(alloc: Global, text: &[u8]) -> Result<Line, LineFault>
     ensures reads { ReadsLine text.now result }
+    ensures ranges { IfOk result IsWithinRanges }
     ensures memory { IsOutOfMemory result → take 2 text.now ≡ codes "l " }
 {
     match text {
@@ -62,6 +63,7 @@ pub fn read_line(alloc: Global, text: &[u8]) -> Result<Line, LineFault>
 fn read_branch(text: &[u8]) -> Result<Line, LineFault>
     requires { take 2 text.now ≡ codes "b " }
     ensures reads { ReadsLine text.now result }
+    ensures ranges { IfOk result IsWithinRanges }
     ensures memory { ¬ IsOutOfMemory result }
 {
     let var = number_at(text, 2, PLACE_LIMIT)?;
@@ -76,7 +78,8 @@ fn read_branch(text: &[u8]) -> Result<Line, LineFault>
 /// Reads a text that begins as a leaf: its S, and then pairs to the end.
 fn read_leaf(alloc: Global, text: &[u8]) -> Result<Line, LineFault>
     requires { take 2 text.now ≡ codes "l " }
-    ensures { ReadsLine text.now result }
+    ensures reads { ReadsLine text.now result }
+    ensures ranges { IfOk result IsWithinRanges }
 {
     let s = number_at(text, 2, SCALE_LIMIT)?;
     let mut pairs = Listed::new(alloc);

@@ -8,7 +8,7 @@ pub returns-in_err-var : goal.returns-in_err-var
 returns-in_err-var c =
     let p = err_from_is_err_and c.from_residual.result c.from_residual.ensures.1 in
     let no = number_refused c.args.text.now 2 var 65535 _ (branch_begins c.args.text.now c.requires) refl c.in_err-var.ensures in
-    rw (p.1, p.2) (record { reads = no.reads; memory = no.memory })
+    rw (p.1, p.2) (record { reads = no.reads; ranges = tt; memory = no.memory })
 
 pub returns-then-var-text-clause-reads : goal.returns-then-var-text-clause-reads
 returns-then-var-text-clause-reads c =
