@@ -13,3 +13,6 @@ pub use calm_link::CalmLink;
 pub use deal::Deal;
 pub use link::{Arrival, Link};
 pub use mem_link::MemLink;
+
+#[cfg(test)]
+mod tests;
