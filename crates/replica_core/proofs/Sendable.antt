@@ -45,7 +45,7 @@ posts_either false x y p q = q
 alone : (tag : Tag) (message : Message) → IsLawful message → AreLawful (to_proxy tag message)
 alone tag message h = All-from_recursion IsLawfulPost (to_proxy tag message) (h, tt)
 
-nothing : AreLawful []
+pub nothing : AreLawful []
 nothing = All-nil IsLawfulPost
 
 gone_lawful : (number : ℕ) (kept : Kept) (tag : Tag) → number < 16 → IsLawfulTag tag → IsLawful (gone number kept tag)

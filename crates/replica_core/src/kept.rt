@@ -1,8 +1,8 @@
-ghost use Rattle.std.specs.Prelude.{◌≡◌, OnOk, OnErr};
-ghost use Rattle.replica_core.specs.Keeping.{opening, is_over, merge};
+ghost use Rattle.std.specs.Prelude.{◌≡◌};
+ghost use Rattle.replica_core.specs.Keeping.{opening, is_over};
 
 use span_base::Value;
-use std::alloc::{AllocError, Global};
+use std::alloc::Global;
 use ticket_rules::Stamp;
 
 /// What a replica keeps of a key.
@@ -39,17 +39,5 @@ impl Kept {
         ensures { result ≡ is_over self.now epoch }
     {
         epoch <= self.frozen
-    }
-
-    /// Takes a version with its value where it is above the one that is kept.
-    pub(crate) fn merge(&mut self, stamp: &Stamp, value: &Value) -> Result<(), AllocError>
-        ensures ok { OnOk result (self.new ≡ merge self.old stamp.now value.now) }
-        ensures err { OnErr result (self.new ≡ self.old) }
-    {
-        if *stamp > self.version {
-            self.value = value.clone()?;
-            self.version = *stamp;
-        }
-        Ok(())
     }
 }

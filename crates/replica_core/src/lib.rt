@@ -3,9 +3,11 @@
 
 mod answer;
 mod bulk;
+mod change;
 mod journal;
 mod kept;
 mod laws;
+mod prepared;
 mod push;
 mod replica;
 mod request;
@@ -14,6 +16,7 @@ mod verdict;
 pub use journal::{TakeFault, Taker};
 pub use kept::Kept;
 pub use laws::nothing_falls;
+pub use prepared::Prepared;
 pub use replica::{Replica, request_key};
 
 #[cfg(test)]

@@ -4,8 +4,10 @@ ghost use Rattle.wire_msg.specs.Outputs.{nothing_out, only_posts, IsMade};
 ghost use Rattle.wire_msg.specs.Posts.{AreAnswersTo};
 ghost use Rattle.wire_msg.specs.Sizes.{bulk_of};
 ghost use Rattle.replica_core.specs.Rule.{opening_state, request_key, step};
+ghost use Rattle.replica_core.specs.Preparing.{IsPrepared};
 
 use crate::kept::Kept;
+use crate::prepared::Prepared;
 use span_base::KeyId;
 use std::alloc::{AllocError, Global};
 use std::marker::Model;
@@ -79,12 +81,41 @@ impl Replica {
         ensures number { self.new.number ≡ self.old.number }
         ensures keys { length self.new.kept ≡ length self.old.kept }
     {
-        if let Some(key) = request_key(message) {
-            let number = self.number;
-            let kept = &mut self.kept[usize::from(key.0)];
-            kept.take(alloc, number, message, out)?;
-        }
+        let prepared = self.prepare(alloc, message)?;
+        self.commit(message, prepared, out);
         Ok(())
+    }
+
+    /// What a message makes of the replica, with all memory that `commit` takes.
+    pub fn prepare(&self, alloc: Global, message: &Message) -> Result<Prepared, AllocError>
+        requires { IfSome (request_key message.now) (λ key. key.0 < length self.now.kept) }
+        ensures { IfOk result (λ prepared. IsPrepared self.now message.now prepared) }
+    {
+        match request_key(message) {
+            Some(key) => self.kept[usize::from(key.0)].prepare(alloc, self.number, message),
+            None => Ok(Prepared::nothing(alloc)),
+        }
+    }
+
+    /// Takes a message that was prepared, and takes no memory: changes what is kept, and puts out
+    /// the answer.
+    pub fn commit(&mut self, message: &Message, prepared: Prepared, out: &mut Outputs)
+        requires lawful { IsLawful message.now }
+        requires empty { out.old ≡ nothing_out }
+        requires key { IfSome (request_key message.now) (λ key. key.0 < length self.old.kept) }
+        requires prepared { IsPrepared self.old message.now prepared }
+        ensures made { IsMade (step self.old message.now) self.new out.new }
+        ensures lawful { AreLawful out.new.posts }
+        ensures posts { AreAnswersTo message.now out.new.posts }
+        ensures only { out.new ≡ only_posts out.new.posts }
+        ensures number { self.new.number ≡ self.old.number }
+        ensures keys { length self.new.kept ≡ length self.old.kept }
+    {
+        let Prepared { change, posts } = prepared;
+        if let Some(key) = request_key(message) {
+            self.kept[usize::from(key.0)].apply(change);
+        }
+        out.posts = posts;
     }
 
     /// How much `take` puts out for this message. It takes no memory.
