@@ -13,7 +13,7 @@ pub record HeldFrames : Type 0 where
   pub sent : List Sent
   pub answers : List (Option Sent)
 
--- what goes by deals: the frames sent, what it answered, how many frames are passed, the deals left, and what the deals given to it were
+-- what goes by deals: the frames sent, what it answered, how many frames are passed, the deals left, and whether all deals that it was given are honest, and faithful
 pub record HeldDeals : Type 0 where
   pub sent : List Sent
   pub answers : List (Option Sent)

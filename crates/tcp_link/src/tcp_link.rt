@@ -88,6 +88,7 @@ fn carry(
 ) -> io::Result<()>
     requires { length frame.now ≤ 8192 }
 {
+    // The memory is taken first, so that nothing is written where there is none.
     let mut read = Vec::new(rt.alloc());
     read.resize(frame.len(), 0)?;
     arrived.reserve(1)?;
