@@ -11,11 +11,29 @@ use Rattle.span_base.specs.declared.words.Cause.{Cause}
 use Rattle.span_base.specs.declared.words.Cause.TheVariants as cause
 use Rattle.shelf_lines.specs.Lines.{IsLine, fed, Begins, BeginsFile, IsFile, IsLongLine, IsPastLimit}
 use Rattle.slo_rules.proofs.ToldApart.{no_feed, OneLine, cut, cut_line, same_after}
+use Rattle.workload.specs.World.{Lists}
+use Rattle.plan_text.specs.Parts.{Part}
+use Rattle.plan_text.specs.PlanText.{plan_text}
+use Rattle.plan_text.specs.PlanLaws.{ArePartsOf}
 use Rattle.plan_check.specs.declared.fault.CheckFault.{CheckFault}
 use Rattle.plan_check.specs.declared.fault.CheckFault.TheVariants.{Absent, ReadFault, TooLarge, Bad, Refused, WriteFault, NoMemory}
 use Rattle.plan_check.specs.Reading.{Lacks, IsTooLarge, IsCutOff}
 use Rattle.plan_check.specs.Places.{Meets}
-use Rattle.plan_check.specs.Laws.{IsWithinLimit, IsFailing}
+
+-- the file is within its limit, and no 1,048,577 bytes of it in a row are without a line feed
+pub record IsWithinLimit (file : List ℕ) : Type 0 where
+  pub bytes : length file ≤ 4294967295
+  pub lines : (before run rest : List ℕ) → file ≡ before ++ (run ++ rest) → IsLine run → length run ≤ 1048576
+
+-- nothing but a fault of the shelf or want of memory
+abbrev pub IsOutsideFault : CheckFault → Type 0
+IsOutsideFault fault = (fault ≡ ReadFault) ⊎ (fault ≡ NoMemory)
+
+-- the named file is the plan of these parts, within the limits
+pub record IsSoundFile (w : Lists) (files : Files) (name : List ℕ) (parts : List Part) : Type 0 where
+  pub file : file_of name files ≡ Some (plan_text w parts)
+  pub within : IsWithinLimit (plan_text w parts)
+  pub sound : ArePartsOf w parts
 
 -- a line's bytes are none but those of a line
 pub line_one : (line : List ℕ) → IsLine line → OneLine line
@@ -81,7 +99,7 @@ cut_at files name file text cause.End is off = record { rest = []; file_is = who
 cut_at files name file text cause.Syntax is off = record { rest = off.0; file_is = whole_at files name file (text ++ off.0) is off.2; line = off.1 }
 cut_at files name file text other is off = absurd off
 
-lacks_at : (files : Files) (name file text : List ℕ) (fault : CheckFault) → file_of name files ≡ Some file → IsWithinLimit file → Lacks (Some files) name text fault → IsFailing fault ⊎ IsCut file text
+lacks_at : (files : Files) (name file text : List ℕ) (fault : CheckFault) → file_of name files ≡ Some file → IsWithinLimit file → Lacks (Some files) name text fault → IsOutsideFault fault ⊎ IsCut file text
 lacks_at files name file text Absent is within lacks = absurd (let none : Some file ≡ None = sym is ∙ lacks in cc)
 lacks_at files name file text ReadFault is within lacks = inl (inl refl)
 lacks_at files name file text (TooLarge line word number) is within lacks = absurd (large_at files name file text line word number is within lacks)
@@ -92,7 +110,7 @@ lacks_at files name file text NoMemory is within lacks = inl (inr refl)
 
 -- what a check can meet behind a text of the file
 pub meets_at : (files : Files) (name file text : List ℕ) (R : List ℕ → CheckFault → Type 0) (fault : CheckFault) → file_of name files ≡ Some file → IsWithinLimit file
-    → Meets (Some files) name text R fault → IsFailing fault ⊎ (IsCut file text ⊎ IsMet file text R fault)
+    → Meets (Some files) name text R fault → IsOutsideFault fault ⊎ (IsCut file text ⊎ IsMet file text R fault)
 meets_at files name file text R fault is within (inl lacks) =
     elim (lacks_at files name file text fault is within lacks) [ inl failing ↦ inl failing | inr off ↦ inr (inl off) ]
 meets_at files name file text R fault is within (inr met) =

@@ -17,4 +17,9 @@ pub mod SameParts
 pub mod Complete
 pub mod NextSet
 pub mod NextPolicy
+pub mod NextNode
+pub mod ShortLines
+pub mod ProgramLimits
+pub mod LineRuns
 pub mod Stopping
+pub mod WholePlans

@@ -31,9 +31,8 @@ use Rattle.plan_check.specs.declared.fault.CheckFault.{CheckFault}
 use Rattle.plan_check.specs.Reading.{line_count}
 use Rattle.plan_check.specs.Places.{parts_read, program_at, policy_read, LeadTo, IsReadBack, StopsInPolicy, RefusesInPolicy, bad_line, bad_policy, RefusesPolicy, forbidden, wrong_cost}
 use Rattle.plan_check.specs.Checks.{IsShownPart}
-use Rattle.plan_check.specs.Laws.{IsFailing, IsPlanFile}
 use Rattle.plan_check.proofs.Drafts.{from_step, whole_rest}
-use Rattle.plan_check.proofs.Following.{IsCut, IsMet, meets_at, line_one}
+use Rattle.plan_check.proofs.Following.{IsOutsideFault, IsSoundFile, IsCut, IsMet, meets_at, line_one}
 use Rattle.plan_check.proofs.Taking.{proof_taken, taken_spellable}
 use Rattle.plan_check.proofs.SameParts.{fit_read, cost_below}
 use Rattle.plan_check.proofs.NextSet.{next_part}
@@ -96,7 +95,7 @@ pub record InPart (w : Lists) (set : ℕ) (tree : List Line) (rest : List ℕ) :
   pub fit : FitsPart part
   pub text_is : tree_text tree ++ rest ≡ tree_text part.lines ++ (ending_text w (length part.lines) part.ending ++ left)
 
-pub in_part_of : (w : Lists) (files : Files) (name : List ℕ) (all parts : List Part) (tree : List Line) (rest : List ℕ) → IsComplete w → IsNamed w → IsPlanFile w files name all
+pub in_part_of : (w : Lists) (files : Files) (name : List ℕ) (all parts : List Part) (tree : List Line) (rest : List ℕ) → IsComplete w → IsNamed w → IsSoundFile w files name all
     → length parts < length w.sets → EachPart (IsShownPart w) parts → plan_text w all ≡ begun_plan w parts tree ++ rest → InPart w (length parts) tree rest
 in_part_of w files name all parts tree rest whole named plan there shown e =
     let first = set_line w (length parts) (length (program_at w parts).costs) in
@@ -186,8 +185,8 @@ line_not w set cost number before draft line more fault q left open_there allowe
     refused_not (forbidden not told) same = not (subst (IsAllowed w set) (sym same) allowed)
     refused_not (wrong_cost ok not told) same = not (ap (policy_cost w set) same ∙ cost_is)
 
-pub stops_policy_not : (w : Lists) (files : Files) (name : List ℕ) (all parts : List Part) (tree : List Line) (cost : ℕ) (fault : CheckFault) → IsComplete w → IsNamed w → IsPlanFile w files name all
-    → length parts < length w.sets → EachPart (IsShownPart w) parts → IsWithinLimits (program_at w parts) → cost < 10 ^ 38 → StopsInPolicy w (Some files) name parts tree cost fault → IsFailing fault
+pub stops_policy_not : (w : Lists) (files : Files) (name : List ℕ) (all parts : List Part) (tree : List Line) (cost : ℕ) (fault : CheckFault) → IsComplete w → IsNamed w → IsSoundFile w files name all
+    → length parts < length w.sets → EachPart (IsShownPart w) parts → IsWithinLimits (program_at w parts) → cost < 10 ^ 38 → StopsInPolicy w (Some files) name parts tree cost fault → IsOutsideFault fault
 stops_policy_not w files name all parts tree cost fault whole named plan there shown limits low stops =
     let set = length parts in
     let said = stops.said in

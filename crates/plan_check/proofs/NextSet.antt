@@ -22,8 +22,7 @@ use Rattle.plan_check.specs.declared.fault.CheckFault.{CheckFault}
 use Rattle.plan_check.specs.Reading.{line_count}
 use Rattle.plan_check.specs.Places.{parts_read, program_at}
 use Rattle.plan_check.specs.Checks.{IsShownPart, IsOtherSet, StopsAtSet, due_at}
-use Rattle.plan_check.specs.Laws.{IsFailing, IsPlanFile}
-use Rattle.plan_check.proofs.Following.{never_cut, IsCut, IsMet, meets_at, next_refused, behind_text}
+use Rattle.plan_check.proofs.Following.{IsOutsideFault, IsSoundFile, never_cut, IsCut, IsMet, meets_at, next_refused, behind_text}
 use Rattle.plan_check.proofs.Complete.{behind_parts}
 
 -- a part comes next, and then the text that is left
@@ -45,7 +44,7 @@ next_in w set (part ∷ more) rest ok fit is some = record {
   rest_is = is ∙ append_assoc (part_text w set part) (parts_text w (set + 1) more) (codes "end\n");
 }
 
-pub next_part : (w : Lists) (files : Files) (name : List ℕ) (all parts : List Part) (rest : List ℕ) → IsComplete w → IsNamed w → IsPlanFile w files name all
+pub next_part : (w : Lists) (files : Files) (name : List ℕ) (all parts : List Part) (rest : List ℕ) → IsComplete w → IsNamed w → IsSoundFile w files name all
     → length parts < length w.sets → EachPart (IsShownPart w) parts → plan_text w all ≡ parts_read w parts ++ rest → NextPart w (length parts) rest
 next_part w files name all parts rest whole named plan there shown e =
     let behind = behind_parts w files name all parts rest whole named plan (omega (arith, there)) shown e in
@@ -72,7 +71,7 @@ word_one Strong = refl
 set_name : (w : Lists) (set : ℕ) → IsNamed w → set < length w.sets → IsName (set_of w set).name
 set_name w set named there = (named.sets.each set _ there).name
 
-abbrev set_words : Lists → ℕ → ℕ → List ℕ
+abbrev pub set_words : Lists → ℕ → ℕ → List ℕ
 set_words w set variables = codes "set " ++ (set_of w set).name ++ codes " " ++ word_of (rule_of w set).mode ++ codes " " ++ decimal variables
 
 words_one : (w : Lists) (set variables : ℕ) → IsNamed w → set < length w.sets → variables < 2 ^ 64 → OneLine (set_words w set variables)
@@ -87,14 +86,14 @@ words_one w set variables named there few =
     (number_one variables (lt_of_lt_of_le few (lit≤ tt)))
 
 -- a part's first line, and what follows it
-set_first : (w : Lists) (set : ℕ) (part : Part) (rest : List ℕ)
+pub set_first : (w : Lists) (set : ℕ) (part : Part) (rest : List ℕ)
     → part_text w set part ++ rest ≡ set_words w set (length (program_of w set).costs) ++ 10 ∷ (tree_text part.lines ++ (ending_text w (length part.lines) part.ending ++ rest))
 set_first w set part rest =
     part_first w set part rest ∙ append_assoc (set_words w set (length (program_of w set).costs)) (codes "\n") (tree_text part.lines ++ (ending_text w (length part.lines) part.ending ++ rest))
 
 -- so no other set's line is met
-pub stops_set : (w : Lists) (files : Files) (name : List ℕ) (all parts : List Part) (fault : CheckFault) → IsComplete w → IsNamed w → IsPlanFile w files name all
-    → length parts < length w.sets → EachPart (IsShownPart w) parts → StopsAtSet w (Some files) name parts fault → IsFailing fault
+pub stops_set : (w : Lists) (files : Files) (name : List ℕ) (all parts : List Part) (fault : CheckFault) → IsComplete w → IsNamed w → IsSoundFile w files name all
+    → length parts < length w.sets → EachPart (IsShownPart w) parts → StopsAtSet w (Some files) name parts fault → IsOutsideFault fault
 stops_set w files name all parts fault whole named plan there shown met =
     let text = parts_read w parts in
     let variables = length (program_at w parts).costs in

@@ -11,7 +11,8 @@ use Rattle.bound_cert.specs.declared.leaves.Line.TheVariants.{Branch, Close}
 use Rattle.bound_cert.specs.declared.leaves.Goal.{Goal}
 use Rattle.bound_cert.specs.Closing.{Closes}
 use Rattle.bound_cert.specs.Trees.{Tree, leaf, branch, lines_of, nodes_of, Node, IsTreeBelow, IsClosed, IsProof, fix}
-use Rattle.bound_cert.specs.Reading.{IsSpellable}
+use Rattle.bound_cert.specs.Text.{HasShortMultipliers}
+use Rattle.bound_cert.specs.Reading.{IsSpellable, IsWithinRanges}
 use Rattle.cert_checker.specs.declared.turns.Turn.{Turn}
 use Rattle.cert_checker.specs.Paths.{turned_back, path_past, path_from, fixed_by}
 use Rattle.cert_checker.specs.Lines.{IsTakenUnder, IsTakenAt, AreTaken}
@@ -19,11 +20,11 @@ use Rattle.cert_checker.proofs.Parsing.{TakenFrom, taken_along}
 use Rattle.cert_checker.proofs.Trails.{length-fixed_over}
 
 -- a fact of all items of a list, of its two parts
-All-left : {X : Type 0} (P : X → Type 0) (xs ys : List X) → All P (xs ++ ys) → All P xs
+pub All-left : {X : Type 0} (P : X → Type 0) (xs ys : List X) → All P (xs ++ ys) → All P xs
 All-left P [] ys all = All-nil P
 All-left P (x ∷ xs) ys all = All-cons P x xs (All-head P x (xs ++ ys) all) (All-left P xs ys (All-tail P x (xs ++ ys) all))
 
-All-right : {X : Type 0} (P : X → Type 0) (xs ys : List X) → All P (xs ++ ys) → All P ys
+pub All-right : {X : Type 0} (P : X → Type 0) (xs ys : List X) → All P (xs ++ ys) → All P ys
 All-right P [] ys all = all
 All-right P (x ∷ xs) ys all = All-right P xs ys (All-tail P x (xs ++ ys) all)
 
@@ -62,27 +63,44 @@ proof_taken program goal lines proof =
     let along : TakenFrom program (Some []) (lines_of proof.tree ++ []) = tree_taken program goal proof.tree [] [] proof.well_formed proof.closed tt in
     each_taken program (Some []) lines (subst (TakenFrom program (Some [])) (append-nil (lines_of proof.tree) ∙ sym proof.whole) along)
 
--- a line that is taken has small numbers
-one_spellable : (program : Contents) (path : List Turn) (line : Line) → IsWithinLimits program → IsTakenUnder program (fixed_by program path) line → IsSpellable line
-one_spellable program path (Branch var) limits free =
+-- a line that is taken has numbers within their ranges
+pub one_within : (program : Contents) (path : List Turn) (line : Line) → IsWithinLimits program → IsTakenUnder program (fixed_by program path) line → IsWithinRanges line
+one_within program path (Branch var) limits free =
     let low : var < length (fixed_by program path) = slice_get_within (fixed_by program path) var None free in
     let size : length (fixed_by program path) ≡ length program.costs = length-fixed_over (length program.costs) path in
-    let small : var ≤ 4096 = omega (arith, low, size, limits.variables) in
-    lt_of_le_of_lt small (lit< tt)
-one_spellable program path (Close end) limits taken =
-    let fits = taken.0 in (
-      lt_of_le_of_lt fits.scale (lit< tt),
-      λ k d inside. (
-        (let row = fits.existing k d inside in let small : (slice_index_or end.pairs k d).row ≤ 16384 = omega (arith, row, limits.row_count) in lt_of_le_of_lt small (lit< tt)),
-        lt_of_le_of_lt (fits.multipliers k d inside).1 (lit< tt),
-      ),
+    let small : var ≤ 65535 = omega (arith, low, size, limits.variables) in
+    small
+one_within program path (Close end) limits taken =
+    let fits = taken.0 in
+    let scale : end.s ≤ 4294967295 = omega (arith, fits.scale) in (
+      scale,
+      λ k d inside. let row = fits.existing k d inside in let small : (slice_index_or end.pairs k d).row ≤ 65535 = omega (arith, row, limits.row_count) in small,
     )
 
-along_spellable : (program : Contents) (from : Option (List Turn)) (lines : List Line) → IsWithinLimits program → TakenFrom program from lines → All IsSpellable lines
-along_spellable program from [] limits taken = All-nil IsSpellable
-along_spellable program None (line ∷ lines) limits taken = absurd taken.0
-along_spellable program (Some path) (line ∷ lines) limits taken =
-    All-cons IsSpellable line lines (one_spellable program path line limits taken.0) (along_spellable program (path_past (Some path) line) lines limits taken.1)
+-- and so can be spelled
+small_spelled : (line : Line) → IsWithinRanges line → HasShortMultipliers line → IsSpellable line
+small_spelled (Branch var) within short = lt_of_le_of_lt within (lit< tt)
+small_spelled (Close end) within short = (lt_of_le_of_lt within.0 (lit< tt), λ k d inside. (lt_of_le_of_lt (within.1 k d inside) (lit< tt), short k d inside))
+
+short_mults : (program : Contents) (path : List Turn) (line : Line) → IsTakenUnder program (fixed_by program path) line → HasShortMultipliers line
+short_mults program path (Branch var) taken = tt
+short_mults program path (Close end) taken = let fits = taken.0 in λ k d inside. lt_of_le_of_lt (fits.multipliers k d inside).1 (lit< tt)
+
+-- what holds of each line that is taken
+each_along : (P : Line → Type 0) (program : Contents) (from : Option (List Turn)) (lines : List Line) → ((path : List Turn) (line : Line) → IsTakenUnder program (fixed_by program path) line → P line)
+    → TakenFrom program from lines → All P lines
+each_along P program from [] holds taken = All-nil P
+each_along P program None (line ∷ lines) holds taken = absurd taken.0
+each_along P program (Some path) (line ∷ lines) holds taken =
+    All-cons P line lines (holds path line taken.0) (each_along P program (path_past (Some path) line) lines holds taken.1)
+
+pub taken_each : (P : Line → Type 0) (program : Contents) (lines : List Line) → ((path : List Turn) (line : Line) → IsTakenUnder program (fixed_by program path) line → P line)
+    → AreTaken program lines → All P lines
+taken_each P program lines holds taken = each_along P program (Some []) lines holds (taken_along program lines taken)
+
+pub taken_within : (program : Contents) (lines : List Line) → IsWithinLimits program → AreTaken program lines → All IsWithinRanges lines
+taken_within program lines limits taken = taken_each IsWithinRanges program lines (λ path line here. one_within program path line limits here) taken
 
 pub taken_spellable : (program : Contents) (lines : List Line) → IsWithinLimits program → AreTaken program lines → All IsSpellable lines
-taken_spellable program lines limits taken = along_spellable program (Some []) lines limits (taken_along program lines taken)
+taken_spellable program lines limits taken =
+    taken_each IsSpellable program lines (λ path line here. small_spelled line (one_within program path line limits here) (short_mults program path line here)) taken

@@ -8,6 +8,7 @@ use Rattle.zero_one.specs.Contents.{Contents}
 use Rattle.bound_cert.specs.declared.leaves.Line.{Line}
 use Rattle.bound_cert.specs.declared.leaves.Goal.TheVariants as goal
 use Rattle.bound_cert.specs.Text.{line_text}
+use Rattle.bound_cert.specs.Reading.{IsSpellable}
 use Rattle.bound_cert.specs.Trees.{IsProof}
 use Rattle.cert_checker.specs.declared.faults.CertFault.{CertFault}
 use Rattle.cert_checker.specs.Lines.{IsRefused, AreTaken}
@@ -68,7 +69,7 @@ IsReadBack w set p = (more : List (List ℕ)) → policy_from w (blank set) (pol
 -- what is refused in a set's tree, behind so many lines of the file and these of the tree
 pub data RefusesInTree (program : Contents) (before : ℕ) (tree : List Line) (line : List ℕ) (fault : CheckFault) : Type 0 where
   no_form : HasNoForm line → fault ≡ Bad (before + length tree + 1) Syntax → RefusesInTree program before tree line fault
-  bad_node : (node : Line) (cert : CertFault) → line_text node ≡ line → IsRefused program tree node cert
+  bad_node : (node : Line) (cert : CertFault) → line_text node ≡ line → IsSpellable node → IsRefused program tree node cert
       → fault ≡ refusal_of before (before + length tree + 1) cert → RefusesInTree program before tree line fault
   unproved : (cost : ℕ) (cert : CertFault) → fed line ≡ cost_line cost → cost < 10 ^ 38 → ¬ IsProof program tree (goal.Cost cost) → Finishes program tree (goal.Cost cost) (Err cert)
       → fault ≡ refusal_of before (before + length tree + 1) cert → RefusesInTree program before tree line fault

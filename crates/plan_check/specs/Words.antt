@@ -6,7 +6,7 @@ use Rattle.workload.specs.Modes.{word_of}
 use Rattle.workload.specs.declared.rules.Mode.TheVariants.{Direct, Relay, Strong}
 use Rattle.shelf_lines.specs.Lines.{fed}
 use Rattle.bound_cert.specs.Text.{line_text}
-use Rattle.bound_cert.specs.Reading.{IsFirstFault}
+use Rattle.bound_cert.specs.Reading.{IsFirstFault, IsSpellable}
 use Rattle.plan_text.specs.PlanText.{cost_line}
 use Rattle.plan_check.specs.declared.word.TreeWord.{TreeWord}
 use Rattle.plan_check.specs.declared.word.TreeWord.TheVariants.{Node, Complete, Nothing, Budget}
@@ -42,7 +42,7 @@ pub record HasNoForm (text : List ℕ) : Type 0 where
   pub not_budget : ¬ IsBudgetForm text
 
 abbrev pub SaysWord : List ℕ → Result TreeWord Unread → Type 0
-SaysWord text (Ok (Node line)) = line_text line ≡ text
+SaysWord text (Ok (Node line)) = (line_text line ≡ text) × IsSpellable line
 SaysWord text (Ok (Complete cost)) = (fed text ≡ cost_line cost) × (cost < 10 ^ 38)
 SaysWord text (Ok Nothing) = fed text ≡ codes "result none\n"
 SaysWord text (Ok Budget) = IsBudgetForm text

@@ -94,6 +94,19 @@ tree_told (l ∷ ls) (m ∷ ms) a b low low' is is' e =
     let rest : (ls ≡ ms) × (a ≡ b) = tree_told ls ms a b (All-tail IsSpellable l ls low) (All-tail IsSpellable m ms low') is is' first.1 in
     ((λ i. same i ∷ rest.0 i), rest.1)
 
+-- a tree's text that begins with the lines of another, up to a result: what lines are left of it, and the text behind the first
+pub tree_begun : (ls ms : List Line) (a b : List ℕ) → All IsSpellable ls → All IsSpellable ms → slice_index b 0 ≡ 114 → tree_text ls ++ a ≡ tree_text ms ++ b
+    → (more : List Line) × (ms ≡ ls ++ more) × (a ≡ tree_text more ++ b)
+tree_begun [] ms a b low low' is e = (ms, refl, e)
+tree_begun (l ∷ ls) [] a b low low' is e = absurd (no_result l (10 ∷ (tree_text ls ++ a)) b is (sym (line_first l ls a) ∙ e))
+tree_begun (l ∷ ls) (m ∷ ms) a b low low' is e =
+    let ok : IsSpellable l = All-head IsSpellable l ls low in
+    let ok' : IsSpellable m = All-head IsSpellable m ms low' in
+    let first = heads (line_text l) (line_text m) (tree_text ls ++ a) (tree_text ms ++ b) (line_one l ok) (line_one m ok') (sym (line_first l ls a) ∙ e ∙ line_first m ms b) in
+    let same : l ≡ m = one_reading l m ok ok' first.0 in
+    let rest = tree_begun ls ms a b (All-tail IsSpellable l ls low) (All-tail IsSpellable m ms low') is first.1 in
+    (rest.0, (λ i. sym same i ∷ rest.1 i), rest.2)
+
 -- the lines of a proof can be spelled
 node_lines : (fixed : List (Option Bool)) (tree : Tree) → map (λ node. node.line) (nodes_of fixed tree) ≡ lines_of tree
 node_lines fixed (leaf end) = refl

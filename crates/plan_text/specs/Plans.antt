@@ -7,6 +7,7 @@ use Rattle.bound_cert.specs.Trees.{IsProof, IsOpenPrefix}
 use Rattle.workload.specs.World.{Lists}
 use Rattle.slo_rules.specs.Rules.{IsAllowed}
 use Rattle.slo_rules.specs.Cost.{policy_cost, IsLeast, HasNoPolicy}
+use Rattle.slo_rules.specs.PolicyLaws.{HasFitSets}
 use Rattle.placement.specs.Placement.{program_of}
 use Rattle.plan_text.specs.Parts.{Priced, Ending, complete, none_allowed, cut_off, Part, completes, is_cut}
 use Rattle.plan_text.specs.PlanText.{plan_text, parts_text, begun_text}
@@ -48,9 +49,21 @@ pub record IsCutPart (w : Lists) (budget set : ℕ) (part : Part) : Type 0 where
   pub open_prefix : IsOpenPrefix (program_of w set) part.lines (goal_of part.ending)
   pub small : budget < 2 ^ (length (program_of w set).costs + 1) - 1
 
--- a part is written for a budget of lines: it is accepted and within the budget, or cut off at it
+-- the sets of an ending's policy have no centres but the 16 that there can be
+abbrev pub HasFitPolicy : Ending → Type 0
+HasFitPolicy (complete cost policy) = HasFitSets policy
+HasFitPolicy none_allowed = Unit {0}
+HasFitPolicy (cut_off found) = Unit {0}
+
+-- a part is written to its end within a budget of lines: it is accepted, and its policy's sets fit
+pub record IsWholePart (w : Lists) (budget set : ℕ) (part : Part) : Type 0 where
+  pub accepted : IsAcceptedPart w set part
+  pub fits : HasFitPolicy part.ending
+  pub within : length part.lines ≤ budget
+
+-- a part is written for a budget of lines: to its end, or cut off at the budget
 abbrev pub IsWrittenPart : Lists → ℕ → ℕ → Part → Type 0
-IsWrittenPart w budget set part = (IsAcceptedPart w set part × (length part.lines ≤ budget)) ⊎ IsCutPart w budget set part
+IsWrittenPart w budget set part = IsWholePart w budget set part ⊎ IsCutPart w budget set part
 
 -- a fact holds of each part and the number of its set
 abbrev pub EachPart : (ℕ → Part → Type 0) → List Part → Type 0

@@ -1,4 +1,5 @@
 pub mod Lower
+pub mod Decoded
 pub mod PartEnds
 pub mod Telling
 pub mod Endings

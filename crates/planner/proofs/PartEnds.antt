@@ -23,6 +23,7 @@ use Rattle.planner.specs.declared.ends.SetEnd.TheVariants as set_end
 use Rattle.planner.specs.Ends.{set_end_of, found_of}
 use Rattle.planner.specs.Writes.{IsBegunPart, IsPartText}
 use Rattle.planner.proofs.Lower.{prefix_lower, proof_lower}
+use Rattle.planner.proofs.Decoded.{decoded_fits}
 
 -- the policy of the best choice is allowed, and costs what is said
 fits_found : (w : Lists) (set : ℕ) (best : Option solver.Best) → IsSet w set → solver.IsBest (program_of w set) best → FitsFound w set (found_of w set best)
@@ -93,7 +94,11 @@ complete_own : (w : Lists) (budget set : ℕ) (lines : List Line) (kept : Kept) 
 complete_own w budget set lines kept cost best known limits stands same proof sound is = record {
   part = record { lines = lines; ending = complete cost (decoded w set best.x) };
   text_is = refl;
-  written = inl (record { shown = proof; ending = (d.allowed, cost_is) }, lines_within budget (program_of w set) lines kept stands same);
+  written = inl (record {
+    accepted = record { shown = proof; ending = (d.allowed, cost_is) };
+    fits = decoded_fits w set known best.x;
+    within = lines_within budget (program_of w set) lines kept stands same;
+  });
   holds = least w set known best.x (record { feasible = sound.0; least = λ y feasible. let low = bounds y feasible in omega (arith, low, value, is) });
   told = refl;
 }
@@ -135,7 +140,11 @@ none_part w budget set program lines kept known is limits stands same proof =
     record {
       part = record { lines = lines; ending = none_allowed };
       text_is = refl;
-      written = inl (record { shown = own; ending = tt }, lines_within budget program lines kept stands same);
+      written = inl (record {
+        accepted = record { shown = own; ending = tt };
+        fits = tt;
+        within = lines_within budget program lines kept stands same;
+      });
       holds = none w set known (proof_refutes (program_of w set) (subst IsWithinLimits is limits) lines own);
       told = refl;
     }

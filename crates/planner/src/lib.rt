@@ -12,6 +12,8 @@ mod plan;
 #[cfg(test)]
 mod tests;
 mod tree;
+mod watch;
 
 pub use ends::{PlanEnd, PlanFault, SetEnd};
 pub use plan::{plan_all, plan_set};
+pub use watch::{Unwatched, Watch};

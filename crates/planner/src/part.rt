@@ -14,7 +14,7 @@ ghost use Rattle.planner.specs.Trees.{IsSearched};
 
 use crate::pen::Pen;
 use crate::tree::{Tree, write_tree};
-use crate::{PlanFault, SetEnd};
+use crate::{PlanFault, SetEnd, Watch};
 use branch_solver::{Progress, Search};
 use placement::decode;
 use slo_rules::cost;
@@ -23,13 +23,14 @@ use std::alloc::{AllocError, Global};
 use workload::World;
 
 /// Writes the part of a set: the lines of its tree as the search gives them, and how it ends.
-pub(crate) fn write_part<K: Sink>(
+pub(crate) fn write_part<K: Sink, W: Watch>(
     alloc: Global,
     world: &World,
     set: SetId,
     budget: u64,
     pen: &mut Pen,
     out: &mut K,
+    watch: &mut W,
 ) -> Result<SetEnd, PlanFault>
     requires set { set.0 < length world.now.sets }
     requires budget { budget ≤ 10 ^ 9 }
@@ -40,13 +41,13 @@ pub(crate) fn write_part<K: Sink>(
     ensures failed { IsErrOf result PlanFault.WriteFault → Rose (K.faults out.old) (K.faults out.new) }
 {
     let mut tree = Tree::make(alloc, world, set, budget)?;
-    write_searched(alloc, world, set, budget, &mut tree, pen, out)
+    write_searched(alloc, world, set, budget, &mut tree, pen, out, watch)
 }
 
 /// Writes the part of a set whose search gave no line yet.
 //
 // The search is lent here: its owner drops it on each way out, and has the fewer of these.
-fn write_searched<K: Sink>(
+fn write_searched<K: Sink, W: Watch>(
     alloc: Global,
     world: &World,
     set: SetId,
@@ -54,6 +55,7 @@ fn write_searched<K: Sink>(
     tree: &mut Tree,
     pen: &mut Pen,
     out: &mut K,
+    watch: &mut W,
 ) -> Result<SetEnd, PlanFault>
     requires set { set.0 < length world.now.sets }
     requires program { tree.old.program ≡ program_of world.now set.0 }
@@ -68,7 +70,14 @@ fn write_searched<K: Sink>(
 {
     let _centres = world.centre_count();
     pen.put_set(out, world, set, tree.program.costs().len())?;
-    let end = write_tree(&tree.program, &mut tree.search, &mut tree.line, pen, out)?;
+    let end = write_tree(
+        &tree.program,
+        &mut tree.search,
+        &mut tree.line,
+        pen,
+        out,
+        watch,
+    )?;
     write_ending(alloc, world, set, budget, &tree.search, end, pen, out)
 }
 

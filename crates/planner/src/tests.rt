@@ -2,7 +2,7 @@
 ghost use Rattle.std.specs.Prelude.{IfOk};
 ghost use Rattle.span_base.specs.Name.{IsName};
 
-use crate::{PlanEnd, PlanFault, SetEnd, plan_all, plan_set};
+use crate::{PlanEnd, PlanFault, SetEnd, Unwatched, plan_all, plan_set};
 use price_tables::{DcPrice, Fare, Tables};
 use span_base::{DcId, MemSink, SetId, Word, read_name};
 use std::alloc::Global;
@@ -116,7 +116,8 @@ fn planned(
     out: &mut MemSink,
 ) -> Result<Result<PlanEnd, PlanFault>, Fail> {
     let world = world(alloc, failures)?;
-    Ok(plan_all(alloc, &world, u64::from(budget), out))
+    let mut nobody = Unwatched;
+    Ok(plan_all(alloc, &world, u64::from(budget), out, &mut nobody))
 }
 
 /// A search that is cut off tells over a set without a policy, whichever comes first.

@@ -4,8 +4,8 @@ ghost use Rattle.placement.specs.Placement.{program_of};
 ghost use Rattle.branch_solver.specs.Kept.{StandsFor};
 ghost use Rattle.planner.specs.Trees.{SaysTree};
 
-use crate::PlanFault;
 use crate::pen::Pen;
+use crate::{PlanFault, Watch};
 use branch_solver::{LineBuf, Progress, Search};
 use placement::encode;
 use span_base::{SetId, Sink};
@@ -48,12 +48,13 @@ impl Tree {
 }
 
 /// Writes the lines of a search's tree as the search gives them, and tells how it ends.
-pub(crate) fn write_tree<K: Sink>(
+pub(crate) fn write_tree<K: Sink, W: Watch>(
     program: &Program,
     search: &mut Search,
     line: &mut LineBuf,
     pen: &mut Pen,
     out: &mut K,
+    watch: &mut W,
 ) -> Result<Progress, PlanFault>
     requires stands { StandsFor program.now [] search.old }
     requires room { length program.now.rows ≤ line.old.room }
@@ -64,7 +65,10 @@ pub(crate) fn write_tree<K: Sink>(
 {
     'tree: loop {
         match search.step(program, line) {
-            Progress::Line => pen.put_tree_line(out, line.line())?,
+            Progress::Line => {
+                pen.put_tree_line(out, line.line())?;
+                watch.line_written();
+            }
             end => return Ok(end),
         }
     }

@@ -52,10 +52,11 @@ returns-in_err-take_node-in-Ok-Node-clause-reads g c = (λ w parts program_is fi
     let number_is : reader.number ≡ before + length inv.tree + 1 = omega (arith, c.in_ok-next.ensures.counts, inv.count) in
     let p = err_from_is_err_and c.from_residual-in_err-take_node-in-Ok-Node.result c.from_residual-in_err-take_node-in-Ok-Node.ensures.1 in
     let fault = c.in_err-take_node-in-Ok-Node.field-0.0 in
-    let said : line_text c.in-Ok-Node.node ≡ line = (rw c.in-Ok-Node.field-0-is at c.in-Ok-Node.ensures) ∙ c.line.ensures in
+    let says = rw c.in-Ok-Node.field-0-is at c.in-Ok-Node.ensures in
+    let said : line_text c.in-Ok-Node.node ≡ line = says.0 ∙ c.line.ensures in
     let told = c.in_err-take_node-in-Ok-Node.ensures inv.tree inv.stands number_is in
     rw (p.1, p.2)
-    (inv.tree, stops_refused w files name program parts inv.tree before c.tree.checker reader fault place here (bad_node c.in-Ok-Node.node told.0 said told.1 told.2)))
+    (inv.tree, stops_refused w files name program parts inv.tree before c.tree.checker reader fault place here (bad_node c.in-Ok-Node.node told.0 said says.1 told.1 told.2)))
 
 pub tree-preserved-in_ok-take_node-in-Ok-Node : goal.tree-preserved-in_ok-take_node-in-Ok-Node
 tree-preserved-in_ok-take_node-in-Ok-Node g c =
@@ -67,7 +68,7 @@ tree-preserved-in_ok-take_node-in-Ok-Node g c =
     let reader = c.next.new.self in
     let line = reader.lines.line in
     let number_is : reader.number ≡ before + length inv.tree + 1 = omega (arith, c.in_ok-next.ensures.counts, inv.count) in
-    let said : line_text node ≡ line = (rw c.in-Ok-Node.field-0-is at c.in-Ok-Node.ensures) ∙ c.line.ensures in
+    let said : line_text node ≡ line = (rw c.in-Ok-Node.field-0-is at c.in-Ok-Node.ensures).0 ∙ c.line.ensures in
     record {
       in_tree = record {
         tree = inv.tree ++ node ∷ [];
@@ -94,7 +95,7 @@ tree-preserved g c =
     let reader = c.next.new.self in
     let line = reader.lines.line in
     let number_is : reader.number ≡ before + length inv.tree + 1 = omega (arith, c.in_ok-next.ensures.counts, inv.count) in
-    let said : line_text node ≡ line = (rw c.in-Ok-Node.field-0-is at c.in-Ok-Node.ensures) ∙ c.line.ensures in
+    let said : line_text node ≡ line = (rw c.in-Ok-Node.field-0-is at c.in-Ok-Node.ensures).0 ∙ c.line.ensures in
     record {
       in_tree = record {
         tree = inv.tree ++ node ∷ [];
