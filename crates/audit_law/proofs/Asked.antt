@@ -1,25 +1,10 @@
 -- What a call that begins is asked for: its key has its work, and one that ends at once ends as its work may.
-use Rattle.std.proofs.Common.{◌≡◌, ◌<◌, Bool, true, false, List, [], ◌∷◌, refl}
-use Rattle.std.specs.Prelude.{not, ◌&&◌, ◌==◌, if◌then◌else◌, length, Option, Some, None}
+use Rattle.std.proofs.Common.{◌≡◌, ◌<◌, Bool, true, false, List, [], ◌∷◌, refl, not, ◌&&◌, ◌==◌, if◌then◌else◌, length, Option, Some, None}
 use Rattle.std.specs.Option.{option_map_or}
-use Rattle.span_base.specs.declared.ids.Call.{Call}
-use Rattle.span_base.specs.declared.ids.DcId.{DcId}
-use Rattle.span_base.specs.declared.ids.KeyId.{KeyId}
-use Rattle.ticket_rules.specs.declared.stamp.Stamp.{Stamp}
-use Rattle.wire_msg.specs.declared.tag.Tag.{Tag}
-use Rattle.wire_msg.specs.declared.outputs.View.{View}
+use Rattle.register_law.proofs.Words.{Call, DcId, KeyId, Stamp, View, Tag, next_handle, Handle, Mark, Work, answers_of, fits, Taken, Done, draws_ticket, ends_at_once, enters, enters_with, first_tag, is_member, opened_call, starts_as, starts_in, ticket_of, Proxy, Store, fits_mode, is_strong_key}
 use Rattle.wire_msg.specs.declared.outputs.Reply.TheVariants as r
-use Rattle.slot_pool.specs.declared.handles.Handle.{Handle}
-use Rattle.slot_pool.specs.Slots.{next_handle}
-use Rattle.run_marks.specs.declared.mark.Work.{Work}
-use Rattle.run_marks.specs.declared.mark.Mark.{Mark}
 use Rattle.run_marks.specs.declared.mark.Work.TheVariants as w
 use Rattle.run_marks.specs.declared.mark.Mark.TheVariants as k
-use Rattle.register_order.specs.Form.{answers_of, fits}
-use Rattle.world_core.specs.State.{Store, Proxy}
-use Rattle.world_core.specs.Calls.{Taken}
-use Rattle.world_core.specs.Starting.{Done, is_member, draws_ticket, ticket_of, opened_call, ends_at_once, enters, enters_with, first_tag, starts_in, starts_as}
-use Rattle.world_core.specs.Step.{is_strong_key, fits_mode}
 
 -- the key is one, and has this work
 pub record IsAskedFor (s : Store) (key : KeyId) (work : Work) : Type 0 where
@@ -29,46 +14,27 @@ pub record IsAskedFor (s : Store) (key : KeyId) (work : Work) : Type 0 where
 -- marks behind a begin end the call as its work may
 abbrev pub EndsRightly : Work → List Mark → Type 0
 EndsRightly work (k.End call reply ∷ marks) = fits (answers_of work) reply ≡ true
-EndsRightly work (k.Begin call key other ∷ marks) = Unit {0}
-EndsRightly work (k.Ticket call stamp ∷ marks) = Unit {0}
-EndsRightly work (k.Epoch epoch ∷ marks) = Unit {0}
-EndsRightly work (k.NoEpoch cause ∷ marks) = Unit {0}
-EndsRightly work [] = Unit {0}
+EndsRightly work _ = Unit {0}
 
 abbrev pub BeginsRightly : Store → List Mark → Type 0
 BeginsRightly s (k.Begin call key work ∷ marks) = IsAskedFor s key work × EndsRightly work marks
-BeginsRightly s (k.Ticket call stamp ∷ marks) = Unit {0}
-BeginsRightly s (k.End call reply ∷ marks) = Unit {0}
-BeginsRightly s (k.Epoch epoch ∷ marks) = Unit {0}
-BeginsRightly s (k.NoEpoch cause ∷ marks) = Unit {0}
-BeginsRightly s [] = Unit {0}
+BeginsRightly s _ = Unit {0}
 
 -- a move needs no membership
 not_member : (work : Work) (view : View) (at : DcId) → not (is_member work view at) ≡ true → fits (answers_of work) r.Outside ≡ true
-not_member w.Read view at h = refl
-not_member (w.Write value) view at h = refl
-not_member w.Get view at h = refl
-not_member w.GetAny view at h = refl
-not_member (w.Put value) view at h = refl
 not_member w.Move view at h = absurd (cc)
+not_member work view at h = refl
 
 not_opened : (strong : Bool) (tag : Tag) (at : DcId) (view : View) (ticket : Stamp) (work : Work) → opened_call strong tag at view ticket work ≡ None → fits (answers_of work) r.Outside ≡ true
-not_opened strong tag at view ticket w.Read h = refl
-not_opened strong tag at view ticket (w.Write value) h = refl
-not_opened strong tag at view ticket w.Get h = refl
-not_opened strong tag at view ticket w.GetAny h = refl
-not_opened strong tag at view ticket (w.Put value) h = refl
 not_opened true tag at view ticket w.Move h = absurd (cc)
 not_opened false tag at view ticket w.Move h = absurd (cc)
+not_opened strong tag at view ticket work h = refl
 
 -- only what draws a ticket runs out of numbers
 no_number : (work : Work) (b : Bool) → (draws_ticket work && b) ≡ true → fits (answers_of work) r.NumbersOut ≡ true
-no_number w.Read b h = absurd (cc)
 no_number (w.Write value) b h = refl
-no_number w.Get b h = absurd (cc)
-no_number w.GetAny b h = absurd (cc)
 no_number (w.Put value) b h = refl
-no_number w.Move b h = absurd (cc)
+no_number work b h = absurd (cc)
 
 did_either : (s : Store) (b : Bool) (one other : Done Proxy) → (b ≡ true → BeginsRightly s one.marks) → (b ≡ false → BeginsRightly s other.marks) → BeginsRightly s (if b then one else other).marks
 did_either s true one other f g = f refl

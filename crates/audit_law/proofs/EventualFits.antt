@@ -1,24 +1,12 @@
 -- A get or a put ends as its work may, and a put that is stored with its ticket.
-use Rattle.std.proofs.Common.{◌≡◌, inl, inr, ℕ, Bool, true, false, List, refl, sym, subst}
-use Rattle.std.specs.Prelude.{max, if◌then◌else◌, Some}
-use Rattle.span_base.specs.declared.ids.Call.{Call}
-use Rattle.span_base.specs.declared.ids.DcId.{DcId}
-use Rattle.ticket_rules.specs.declared.stamp.Stamp.{Stamp}
-use Rattle.wire_msg.specs.declared.tag.Tag.{Tag}
-use Rattle.wire_msg.specs.declared.message.Message.{Message}
-use Rattle.wire_msg.specs.declared.outputs.Reply.{Reply}
-use Rattle.wire_msg.specs.Outputs.{Step}
+use Rattle.std.proofs.Common.{◌≡◌, inl, inr, ℕ, Bool, true, false, List, refl, sym, subst, max, if◌then◌else◌, Some}
+use Rattle.register_law.proofs.Words.{Call, DcId, Stamp, Step, Message, Reply, Tag, counts, with_bad, with_good, Doing, Mark, Work, answers_of, fits}
 use Rattle.wire_msg.specs.declared.message.Message.TheVariants as m
 use Rattle.wire_msg.specs.declared.outputs.Reply.TheVariants as r
-use Rattle.call_phase.specs.Counting.{counts, with_good, with_bad}
-use Rattle.relay_proxy.specs.declared.stage.Stage.{Stage as Doing}
 use Rattle.relay_proxy.specs.declared.stage.Stage.TheVariants as doing
 use Rattle.relay_proxy.specs.Rule as eventual
 use Rattle.relay_proxy.specs.State as relay
-use Rattle.run_marks.specs.declared.mark.Work.{Work}
-use Rattle.run_marks.specs.declared.mark.Mark.{Mark}
 use Rattle.run_marks.specs.declared.mark.Work.TheVariants as w
-use Rattle.register_order.specs.Form.{answers_of, fits}
 use Rattle.audit_law.specs.Live.{EventualDoes, EventualLatest}
 use Rattle.audit_law.proofs.StrongFits.{EndFits, EndGives}
 

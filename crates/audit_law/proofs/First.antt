@@ -1,18 +1,8 @@
 -- Before the first event the log is empty, and the store is as the header opens it.
-use Rattle.std.proofs.Common.{◌≡◌, ℕ, ◌<◌, List, [], ◌∷◌, refl, ap, ◌∙◌, arith}
-use Rattle.std.specs.Prelude.{zero, suc, length, map, slice_index_or}
-use Rattle.std.proofs.lemmas.List.{length-map, get_or-map}
-use Rattle.std.proofs.lemmas.List.FromFn.{get_or-map-range_with_len}
-use Rattle.span_base.specs.declared.ids.DcId.{DcId}
-use Rattle.span_base.specs.declared.ids.KeyId.{KeyId}
-use Rattle.wire_msg.specs.declared.outputs.View.{View}
+use Rattle.std.proofs.Common.{◌≡◌, ℕ, List, [], ◌∷◌, refl, zero, suc, map, slice_index_or}
+use Rattle.register_law.proofs.Words.{DcId, FrontsAgree, no_proxy, opening, opening_proxy, Header, TagsTellApart, none_among}
 use Rattle.run_marks.specs.declared.mark.Mark.TheVariants as k
-use Rattle.register_order.specs.Clauses.{FrontsAgree}
-use Rattle.register_order.proofs.Members.{none_among}
 use Rattle.register_order.proofs.NoCalls.{untouched_calls_agree}
-use Rattle.world_core.specs.declared.event.Header.{Header}
-use Rattle.world_core.specs.State.{Proxy, opening, opening_proxy, opening_view, key_set, no_proxy, no_view, proxy_at, view_at}
-use Rattle.register_law.specs.Tags.{TagsTellApart}
 use Rattle.register_law.proofs.Opening.{nothing_sent, none_live}
 use Rattle.audit_law.specs.Live.{LogIsFormed}
 use Rattle.register_law.proofs.OpeningHolds.{opening_view_keys}

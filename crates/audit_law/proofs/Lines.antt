@@ -1,31 +1,11 @@
 -- Each line that an event leaves is well formed, and no event leaves more than two.
-use Rattle.std.proofs.Common.{◌≡◌, ℕ, true, List, [], ◌∷◌, ◌++◌, refl, sym, ◌∙◌, subst}
-use Rattle.std.specs.Prelude.{Option, Some, None, Contains}
-use Rattle.span_base.specs.declared.ids.KeyId.{KeyId}
-use Rattle.ticket_rules.specs.declared.stamp.Stamp.{Stamp}
-use Rattle.wire_msg.specs.declared.tag.Tag.{Tag}
-use Rattle.wire_msg.specs.declared.message.Message.{Message}
-use Rattle.wire_msg.specs.declared.outputs.Reply.{Reply}
-use Rattle.wire_msg.specs.Posts.{tag_of}
+use Rattle.std.proofs.Common.{◌≡◌, ℕ, true, List, [], ◌∷◌, ◌++◌, refl, sym, ◌∙◌, subst, Option, Some, None, Contains}
+use Rattle.register_law.proofs.Words.{KeyId, Stamp, tag_of, Message, Reply, Tag, call_of, Mark, Work, GivesLatest, IsOpen, KeepsForm, answers_of, draws, fits, key_of_call, tag_of_call, learned, draws_ticket, Store, proxy_at, view_at, Happening, end_marks, handle_in, ticket_marks, LiveCall, Happened, IsTicketOf}
 use Rattle.wire_msg.specs.declared.outputs.Reply.TheVariants as r
-use Rattle.run_marks.specs.declared.mark.Work.{Work}
-use Rattle.run_marks.specs.declared.mark.Mark.{Mark}
-use Rattle.run_marks.specs.History.{call_of}
 use Rattle.run_marks.specs.declared.mark.Mark.TheVariants as k
-use Rattle.register_order.specs.Form.{IsOpen, draws, answers_of, fits, GivesLatest, KeepsForm}
 use Rattle.register_order.proofs.Begins.{begins_as_one}
 use Rattle.register_order.proofs.Numbered.{numbered_calls_begin_once}
-use Rattle.world_core.specs.declared.live.LiveCall.{LiveCall}
-use Rattle.world_core.specs.State.{Store, proxy_at, view_at}
-use Rattle.world_core.specs.Knowing.{learned}
-use Rattle.world_core.specs.Calls.{tag_of_call, key_of_call}
-use Rattle.world_core.specs.Starting.{draws_ticket}
-use Rattle.world_core.specs.Step.{Happening, handle_in, ticket_marks, end_marks}
-use Rattle.register_law.specs.Cases.{Happened}
-use Rattle.register_law.specs.Sent.{IsTicketOf}
-use Rattle.register_law.proofs.CallsOthers.{take_ticket}
-use Rattle.register_law.proofs.EndsOwn.{take_end}
-use Rattle.register_law.proofs.TicketsDrawn.{take_ticket_is}
+use Rattle.register_law.proofs.CallsOthers.{take_ticket, take_end, take_ticket_is}
 use Rattle.register_law.proofs.TagsCalls.{taken_of}
 use Rattle.register_law.proofs.MarksAre.{MarksAre, unmarked, of_no_call, of_refused, of_start, of_call, of_give_up, marks_are}
 use Rattle.audit_law.specs.Live.{IsTold, LogIsFormed}
@@ -37,11 +17,9 @@ use Rattle.audit_law.proofs.Unended.{calls_kept}
 use Rattle.audit_law.proofs.NewLines.{AreFormed, no_lines, one_line, refused_lines, start_lines}
 
 of_nobody : (marks : List Mark) (mark : Mark) → call_of mark ≡ None → KeepsForm marks mark
-of_nobody marks (k.Begin call key work) e = absurd (cc)
-of_nobody marks (k.Ticket call stamp) e = absurd (cc)
-of_nobody marks (k.End call reply) e = absurd (cc)
 of_nobody marks (k.Epoch epoch) e = record { call = tt; kind = tt; stamp = tt }
 of_nobody marks (k.NoEpoch cause) e = record { call = tt; kind = tt; stamp = tt }
+of_nobody marks mark e = absurd (cc)
 
 told_open : (marks : List Mark) (live : LiveCall) → IsTold marks live → IsOpen marks (tag_of_call live).call
 told_open marks live told = record { key = told.at; work = told.work; begun = told.begun; unended = told.unended }
@@ -101,7 +79,7 @@ event_lines s h marks is right f = by (marks_are s h is)
     by : MarksAre s h → AreFormed marks h.marks
     by (unmarked e) = subst (AreFormed marks) (sym e) (no_lines marks)
     by (of_no_call mark none e) = subst (AreFormed marks) (sym e) (one_line marks mark (of_nobody marks mark none))
-    by (of_refused p key work reply lt dead e) = subst (AreFormed marks) (sym e) (refused_lines s marks f p key work reply dead (subst (BeginsRightly s) e right).1)
+    by (of_refused p key work reply lt dead _ e) = subst (AreFormed marks) (sym e) (refused_lines s marks f p key work reply dead (subst (BeginsRightly s) e right).1)
     by (of_start p key work st e) = subst (AreFormed marks) (sym e) (start_lines s marks f p key work (draws_ticket work) refl)
     by (of_call p message live took e) =
         subst (AreFormed marks) (sym e) (took_lines s marks f p message live (f.live p (handle_in message) live took.live) (taken_of s p message live).out.ticket (taken_of s p message live).out.end refl refl)

@@ -1,28 +1,12 @@
 -- Reads and writes begin on strong keys alone, so no call reads or writes a key that isn't one.
-use Rattle.std.proofs.Common.{◌≡◌, inl, inr, ℕ, ◌<◌, ◌≤◌, Bool, true, false, List, [], ◌++◌, refl, sym, ap, ◌∙◌, subst, arith}
-use Rattle.std.specs.Prelude.{nat_lt, length, map, Contains}
-use Rattle.std.proofs.lemmas.Grind.{common_steps}
-use Rattle.std.proofs.lemmas.List.{length-map}
-use Rattle.std.proofs.lemmas.List.Elements.{Contains-append_cases}
-use Rattle.span_base.specs.declared.ids.Call.{Call}
-use Rattle.span_base.specs.declared.ids.KeyId.{KeyId}
-use Rattle.epoch_directory.specs.State.{latest, is_strong}
-use Rattle.run_marks.specs.declared.mark.Work.{Work}
-use Rattle.run_marks.specs.declared.mark.Mark.{Mark}
-use Rattle.run_marks.specs.History.{is_register_work, history_of}
+use Rattle.std.proofs.Common.{◌≡◌, inl, inr, ℕ, ◌<◌, ◌≤◌, Bool, true, false, List, [], ◌++◌, refl, sym, ap, ◌∙◌, subst, arith, nat_lt, length, map, Contains}
+use Rattle.register_law.proofs.Words.{Call, KeyId, is_strong, latest, history_of, is_register_work, Mark, Work, CallsAgree, IsStrongKey, Store, key_set, opening, Happening, fits_mode, is_strong_key, Header, Happened, common_steps, length-map, Contains-append_cases, none_among}
 use Rattle.run_marks.specs.declared.mark.Work.TheVariants as w
 use Rattle.run_marks.specs.declared.mark.Mark.TheVariants as k
-use Rattle.register_order.specs.Agree.{CallsAgree}
 use Rattle.register_order.proofs.NoCalls.{untouched_calls_agree}
-use Rattle.register_order.proofs.Members.{none_among}
-use Rattle.world_core.specs.declared.event.Header.{Header}
-use Rattle.world_core.specs.State.{Store, opening, key_set}
-use Rattle.world_core.specs.Step.{Happening, is_strong_key, fits_mode}
-use Rattle.world_core.specs.Laws.{IsStrongKey}
-use Rattle.register_law.specs.Cases.{Happened}
 use Rattle.register_law.proofs.Growth.{directory_grows, policy_stays}
 use Rattle.register_law.proofs.Opening.{policy_is}
-use Rattle.register_law.proofs.EndsBegins.{new_begin}
+use Rattle.register_law.proofs.EndsBegun.{new_begin}
 use Rattle.audit_law.proofs.Asked.{IsAskedFor, BeginsRightly}
 use Rattle.register_law.proofs.Basics.{same_key, less_is}
 
@@ -68,11 +52,7 @@ modes_first header = record {
 
 no_register_work : (work : Work) (b : Bool) → b ≡ false → fits_mode b work ≡ true → is_register_work work ≡ true → ⊥
 no_register_work w.Read b is fits h = cc
-no_register_work (w.Write value) b is fits h = cc
-no_register_work w.Get b is fits h = cc
-no_register_work w.GetAny b is fits h = cc
-no_register_work (w.Put value) b is fits h = cc
-no_register_work w.Move b is fits h = cc
+no_register_work work b is fits h = cc
 
 not_below : (a b : ℕ) → nat_lt a b ≡ false → a < b → ⊥
 not_below a b h lt = grind (arith, common_steps)

@@ -1,24 +1,11 @@
 -- The lines of an event that begins a call are well formed.
-use Rattle.std.proofs.Common.{◌≡◌, inl, inr, ℕ, ◌+◌, Bool, true, false, List, [], ◌∷◌, ◌++◌, refl, sym, ap, subst, arith}
-use Rattle.std.specs.Prelude.{if◌then◌else◌, Contains}
-use Rattle.std.proofs.lemmas.List.Elements.{Contains-push, Contains-push_cases}
-use Rattle.span_base.specs.declared.ids.Call.{Call}
-use Rattle.span_base.specs.declared.ids.KeyId.{KeyId}
-use Rattle.ticket_rules.specs.Stamp.{IsAbove}
-use Rattle.wire_msg.specs.declared.outputs.Reply.{Reply}
+use Rattle.std.proofs.Common.{◌≡◌, inl, inr, ℕ, ◌+◌, Bool, true, false, List, [], ◌∷◌, ◌++◌, refl, sym, ap, subst, arith, if◌then◌else◌, Contains}
+use Rattle.register_law.proofs.Words.{Call, KeyId, IsAbove, Reply, is_dead, Mark, Work, EachKeeps, GivesLatest, IsOpen, KeepsForm, answers_of, draws, fits, draws_ticket, Store, next_call, Contains-push, Contains-push_cases}
 use Rattle.wire_msg.specs.declared.outputs.Reply.TheVariants as r
-use Rattle.run_marks.specs.declared.mark.Work.{Work}
-use Rattle.run_marks.specs.declared.mark.Mark.{Mark}
-use Rattle.run_marks.specs.History.{is_dead}
 use Rattle.run_marks.specs.declared.mark.Work.TheVariants as w
 use Rattle.run_marks.specs.declared.mark.Mark.TheVariants as k
-use Rattle.register_order.specs.Form.{IsOpen, draws, answers_of, fits, GivesLatest, KeepsForm}
-use Rattle.register_order.specs.Clauses.{EachKeeps}
 use Rattle.register_order.proofs.AfterBegin.{IsNew}
 use Rattle.register_order.proofs.ByEvents.{AreOfEvent}
-use Rattle.world_core.specs.State.{Store}
-use Rattle.world_core.specs.Starting.{draws_ticket}
-use Rattle.register_law.specs.Cases.{next_call}
 use Rattle.register_law.proofs.MarksAre.{start_ticket}
 use Rattle.audit_law.specs.Live.{LogIsFormed}
 use Rattle.audit_law.proofs.Unended.{next_call_is_new}
@@ -52,18 +39,8 @@ begun_work P marks call key work new p at does c =
     ]
 
 dead_gives : (marks : List Mark) (call : Call) (reply : Reply) → is_dead reply ≡ true → GivesLatest marks call reply
-dead_gives marks call (r.Value stamp value) e = tt
 dead_gives marks call (r.Stored stamp) e = absurd (cc)
-dead_gives marks call (r.At epoch) e = tt
-dead_gives marks call (r.Moved epoch) e = tt
-dead_gives marks call (r.Fenced held) e = tt
-dead_gives marks call r.Unsure e = tt
-dead_gives marks call (r.Current epoch) e = tt
-dead_gives marks call (r.Stale epoch) e = tt
-dead_gives marks call r.Outside e = tt
-dead_gives marks call r.Full e = tt
-dead_gives marks call r.NumbersOut e = tt
-dead_gives marks call r.GivenUp e = tt
+dead_gives marks call reply e = tt
 
 begin_line : (s : Store) (marks : List Mark) → LogIsFormed s marks → (p : ℕ) (key : KeyId) (work : Work) → KeepsForm marks (k.Begin (next_call s p) key work)
 begin_line s marks f p key work = record { call = ap (λ (n : ℕ). n + 1) (sym (f.numbers p)); kind = tt; stamp = tt }
@@ -90,11 +67,7 @@ refused_lines s marks f p key work reply dead fit =
 -- what draws a ticket at its start may draw tickets
 ticket_draws : (work : Work) → draws_ticket work ≡ true → draws work ≡ true
 ticket_draws w.Read e = e
-ticket_draws (w.Write value) e = e
-ticket_draws w.Get e = e
-ticket_draws w.GetAny e = e
-ticket_draws (w.Put value) e = e
-ticket_draws w.Move e = e
+ticket_draws work e = e
 
 pub start_lines : (s : Store) (marks : List Mark) → LogIsFormed s marks → (p : ℕ) (key : KeyId) (work : Work) (b : Bool) → draws_ticket work ≡ b
     → AreFormed marks (k.Begin (next_call s p) key work ∷ (if b then k.Ticket (next_call s p) (start_ticket s p key) ∷ [] else []))

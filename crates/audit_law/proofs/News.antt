@@ -1,17 +1,8 @@
 -- Lines joined to lines, and the call that a proxy begins next, of which no line speaks yet.
-use Rattle.std.proofs.Common.{◌≡◌, ◌+◌, List, [], ◌∷◌, ◌++◌, append_assoc, append-nil, refl, sym, subst}
-use Rattle.std.specs.Prelude.{Some, Contains}
-use Rattle.std.proofs.lemmas.List.Elements.{Contains-append_left}
-use Rattle.span_base.specs.declared.ids.Call.{Call}
-use Rattle.span_base.specs.declared.ids.KeyId.{KeyId}
-use Rattle.run_marks.specs.declared.mark.Work.{Work}
-use Rattle.run_marks.specs.declared.mark.Mark.{Mark}
-use Rattle.run_marks.specs.History.{call_of}
+use Rattle.std.proofs.Common.{◌≡◌, ◌+◌, List, [], ◌∷◌, ◌++◌, append_assoc, append-nil, refl, sym, subst, Some, Contains}
+use Rattle.register_law.proofs.Words.{Call, KeyId, call_of, Mark, Work, EachKeeps, IsOpen, KeepsCall, last_seq, Contains-append_left, parted}
 use Rattle.run_marks.specs.declared.mark.Mark.TheVariants as k
-use Rattle.register_order.specs.Form.{KeepsCall, IsOpen, last_seq}
-use Rattle.register_order.specs.Clauses.{EachKeeps}
 use Rattle.register_order.proofs.AfterBegin.{IsNew}
-use Rattle.register_order.proofs.Members.{parted}
 use Rattle.register_order.proofs.Lines.{where_split}
 use Rattle.register_order.proofs.Numbered.{numbered_calls_begin_once}
 

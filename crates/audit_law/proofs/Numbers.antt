@@ -1,21 +1,11 @@
 -- The last number of a proxy's calls in the log is how many calls it began.
-use Rattle.std.proofs.Common.{◌≡◌, ℕ, ◌<◌, Bool, true, false, List, [], ◌∷◌, ◌++◌, refl, sym, ap, ◌∙◌, subst}
-use Rattle.std.specs.Prelude.{◌==◌, if◌then◌else◌, length, Option, Some, None}
-use Rattle.std.specs.List.{fold}
+use Rattle.std.proofs.Common.{◌≡◌, ℕ, ◌<◌, Bool, true, false, List, [], ◌∷◌, ◌++◌, refl, sym, ap, ◌∙◌, subst, ◌==◌, if◌then◌else◌, length, Option, None, fold, Some}
 use Rattle.std.proofs.lemmas.List.Sums.{fold-append}
-use Rattle.span_base.specs.declared.ids.Call.{Call}
-use Rattle.ticket_rules.specs.declared.stamp.Stamp.{Stamp}
-use Rattle.wire_msg.specs.declared.outputs.Reply.{Reply}
-use Rattle.run_marks.specs.declared.mark.Mark.{Mark}
+use Rattle.register_law.proofs.Words.{Call, Stamp, Reply, Mark, last_seq, draws_ticket, Proxy, Store, proxy_at, Happening, end_marks, ticket_marks, with_proxy, Happened, call_took, gave_up, next_call, proxy_learned, proxy_stopped, refused_at_once, started}
 use Rattle.run_marks.specs.declared.mark.Mark.TheVariants as k
-use Rattle.register_order.specs.Form.{seq_after, last_seq}
-use Rattle.world_core.specs.State.{Store, Proxy, proxy_at}
-use Rattle.world_core.specs.Starting.{draws_ticket}
-use Rattle.world_core.specs.Step.{Happening, with_proxy, ticket_marks, end_marks}
-use Rattle.register_law.specs.Cases.{Happened, next_call, ignored, replica_stopped, proxy_stopped, refused_at_once, started, replica_took, directory_took, proxy_learned, call_took, gave_up, published, not_published}
-use Rattle.register_law.proofs.MovesKeys.{apart_is}
+use Rattle.register_order.specs.Form.{seq_after}
+use Rattle.register_law.proofs.Basics.{apart_is, equal_is, is_made}
 use Rattle.register_law.proofs.TagsCalls.{proxy_cases, proxy_is}
-use Rattle.register_law.proofs.Basics.{equal_is}
 
 abbrev pub NumbersAre : Store → List Mark → Type 0
 NumbersAre s marks = (p : ℕ) → last_seq p marks ≡ (proxy_at s p).begun
@@ -38,9 +28,8 @@ ticket_passes q last call stamp false = refl
 
 call_passes : (q last : ℕ) (call : Call) (t : Option Stamp) (o : Option Reply) → fold (seq_after q) last (ticket_marks call t ++ end_marks call o) ≡ last
 call_passes q last call None None = refl
-call_passes q last call None (Some reply) = refl
 call_passes q last call (Some stamp) None = refl
-call_passes q last call (Some stamp) (Some reply) = refl
+call_passes q last call t o = refl
 
 -- one event's lines count what it begins
 counted_by : ℕ → ℕ → Happening → Type 0
@@ -48,18 +37,13 @@ counted_by q last x = fold (seq_after q) last x.marks ≡ (proxy_at x.store q).b
 
 event_counts : (s : Store) (h : Happening) (q last : ℕ) → Happened s h → last ≡ (proxy_at s q).begun → counted_by q last h
 unfolding counted_by
-event_counts s h q last (ignored is) was = subst (counted_by q last) (sym is) was
-event_counts s h q last (replica_stopped d is) was = subst (counted_by q last) (sym is) was
 event_counts s h q last (proxy_stopped p is) was = subst (counted_by q last) (sym is) (was ∙ sym (begun_same s p q (record (proxy_at s p) { stopped = true }) refl))
 event_counts s h q last (refused_at_once p key work reply lt dead is) was = subst (counted_by q last) (sym is) (begun_next s p q _ last lt was)
 event_counts s h q last (started p key work st) was = subst (counted_by q last) (sym st.is) (ticket_passes q _ (next_call s p) _ (draws_ticket work) ∙ begun_next s p q _ last st.exists was)
-event_counts s h q last (replica_took d message taken is) was = subst (counted_by q last) (sym is) was
-event_counts s h q last (directory_took message sent is) was = subst (counted_by q last) (sym is) was
 event_counts s h q last (proxy_learned p message sent is) was = subst (counted_by q last) (sym is) (was ∙ sym (begun_same s p q _ refl))
 event_counts s h q last (call_took p message call took) was = subst (counted_by q last) (sym took.is) (call_passes q last _ _ _ ∙ was ∙ sym (begun_same s p q _ refl))
 event_counts s h q last (gave_up p handle call live is) was = subst (counted_by q last) (sym is) (was ∙ sym (begun_same s p q _ refl))
-event_counts s h q last (published table right is) was = subst (counted_by q last) (sym is) was
-event_counts s h q last (not_published cause is) was = subst (counted_by q last) (sym is) was
+event_counts s h q last o was = subst (counted_by q last) (sym (is_made s h o)) was
 
 pub numbers_after : (s : Store) (h : Happening) (marks : List Mark) → Happened s h → NumbersAre s marks → NumbersAre h.store (marks ++ h.marks)
 unfolding counted_by

@@ -1,27 +1,12 @@
 -- The lines of every run break no clause: each event keeps them sound.
-use Rattle.std.proofs.Common.{◌≡◌, List, [], ◌∷◌, ◌++◌, append_assoc, append-nil, refl, sym, ap, subst}
-use Rattle.std.specs.Prelude.{Ok, Err}
-use Rattle.span_base.specs.declared.ids.KeyId.{KeyId}
-use Rattle.run_marks.specs.declared.mark.Mark.{Mark}
-use Rattle.run_marks.specs.History.{history_of}
-use Rattle.register_order.specs.Agree.{CallsAgree}
-use Rattle.register_order.specs.Form.{KeepsForm}
-use Rattle.register_order.specs.Clauses.{FrontsAgree}
+use Rattle.std.proofs.Common.{◌≡◌, List, [], ◌∷◌, ◌++◌, append_assoc, append-nil, refl, sym, ap, subst, Ok, Err}
+use Rattle.register_law.proofs.Words.{KeyId, history_of, Mark, CallsAgree, FrontsAgree, KeepsForm, IsStrongKey, GoingOn, IsHeader, MayHappen, MayRun, Run, ran, run, run_of, store_after, Store, opening, Happening, Outcome, step, Event, Header, StoredBy, Ghost, first_ghost, noted_of, Inv}
 use Rattle.register_order.proofs.FromMarks.{marks_agree}
 use Rattle.register_order.proofs.FromFronts.{agreeing_fronts_break_none}
 use Rattle.register_order.proofs.ByEvents.{fronts_agree_after_event}
-use Rattle.world_core.specs.declared.event.Header.{Header}
-use Rattle.world_core.specs.declared.event.Event.{Event}
-use Rattle.world_core.specs.State.{Store, opening}
-use Rattle.world_core.specs.Step.{Outcome, Happening, step}
-use Rattle.world_core.specs.Run.{Run, run, run_of, ran, store_after, IsHeader, MayRun, MayHappen, GoingOn}
-use Rattle.world_core.specs.Laws.{IsStrongKey}
-use Rattle.register_law.specs.Ghost.{Ghost, first_ghost, noted_of}
-use Rattle.register_law.specs.Ends.{StoredBy}
 use Rattle.register_law.proofs.Happened.{happened}
-use Rattle.register_law.proofs.Induction.{Holds, every_event_keeps}
+use Rattle.register_law.proofs.Induction.{every_event_keeps}
 use Rattle.register_law.proofs.MarksOfKey.{floor_of, marks_tell}
-use Rattle.register_law.proofs.OpeningsFirst.{keys_agree_first}
 use Rattle.register_law.proofs.TagsKept.{tags_kept}
 use Rattle.audit_law.specs.Laws.{RunsBreakNoClause}
 use Rattle.audit_law.specs.Live.{LogIsFormed}
@@ -38,7 +23,7 @@ use Rattle.register_law.proofs.OpeningHolds.{opening_holds}
 -- the invariant holds of a strong key, with what is noted of this log
 pub record IsNoted (key : KeyId) (s : Store) (marks : List Mark) : Type 0 where
   pub ghost : Ghost
-  pub holds : Holds key s ghost
+  pub holds : Inv key s ghost
   pub same : ghost.marks ≡ marks
 
 pub record LogIsSound (header : Header) (s : Store) (marks : List Mark) : Type 0 where
@@ -49,7 +34,7 @@ pub record LogIsSound (header : Header) (s : Store) (marks : List Mark) : Type 0
 
 noted_calls_agree : (key : KeyId) (s : Store) (marks : List Mark) → IsNoted key s marks → CallsAgree (history_of key.0 marks)
 noted_calls_agree key s marks n =
-    subst (λ (ms : List Mark). CallsAgree (history_of key.0 ms)) n.same (marks_agree (history_of key.0 n.ghost.marks) (StoredBy key s) (floor_of n.ghost) (marks_tell key s n.ghost n.holds.inv))
+    subst (λ (ms : List Mark). CallsAgree (history_of key.0 ms)) n.same (marks_agree (history_of key.0 n.ghost.marks) (StoredBy key s) (floor_of n.ghost) (marks_tell key s n.ghost n.holds))
 
 noted_after : (header : Header) (s : Store) (marks : List Mark) (e : Event) (h : Happening) → step s e ≡ Ok h → MayHappen s e → LogIsSound header s marks → (key : KeyId) → IsStrongKey header key.0 → IsNoted key h.store (marks ++ h.marks)
 noted_after header s marks e h taken may o key strong =
@@ -92,7 +77,7 @@ opening_is_sound : (header : Header) → IsHeader header → LogIsSound header (
 opening_is_sound header h = record {
   formed = formed_first header;
   modes = modes_first header;
-  noted = λ key strong. record { ghost = first_ghost; holds = record { inv = opening_holds header key h strong; keys = keys_agree_first header key strong }; same = refl };
+  noted = λ key strong. record { ghost = first_ghost; holds = opening_holds header key h strong; same = refl };
   fronts = no_fronts;
 }
 

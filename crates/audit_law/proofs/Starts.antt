@@ -1,42 +1,14 @@
 -- Whatever an event is, a call that begins in it is asked for, and ends as its work may if it ends at once.
-use Rattle.std.proofs.Common.{◌≡◌, ℕ, ◌+◌, ◌<◌, Bool, true, false, List, [], ◌∷◌, ◌++◌, refl, subst, arith}
-use Rattle.std.specs.Prelude.{nat_lt, not, ◌==◌, if◌then◌else◌, length, Option, Some, None, slice_get, Ok, Err}
+use Rattle.std.proofs.Common.{◌≡◌, ℕ, ◌+◌, Bool, true, false, List, [], ◌∷◌, ◌++◌, refl, subst, nat_lt, not, ◌==◌, if◌then◌else◌, length, Option, Some, None, slice_get, Ok, Err}
 use Rattle.std.specs.Option.{option_map_or}
-use Rattle.std.proofs.lemmas.Grind.{common_steps}
-use Rattle.span_base.specs.declared.ids.Call.{Call}
-use Rattle.span_base.specs.declared.ids.KeyId.{KeyId}
-use Rattle.span_base.specs.declared.words.What.TheVariants.{Messages, FrameBytes, Epochs}
-use Rattle.ticket_rules.specs.declared.stamp.Stamp.{Stamp}
-use Rattle.wire_msg.specs.declared.actor.Actor.{Actor}
-use Rattle.wire_msg.specs.declared.message.Message.{Message}
-use Rattle.wire_msg.specs.declared.outputs.Post.{Post}
-use Rattle.wire_msg.specs.declared.outputs.Reply.{Reply}
-use Rattle.wire_msg.specs.Sizes.{bulk_of}
-use Rattle.wire_msg.specs.Outputs.{Step}
+use Rattle.register_law.proofs.Words.{Call, KeyId, Epochs, FrameBytes, Messages, Stamp, Step, bulk_of, Actor, Message, Post, Reply, State, latest, after_publish, table_fault, PublishFault, SetPolicy, after_take, item_at, Handle, Mark, Work, tag_of_call, learned, Done, starts, starts_as, Proxy, Store, proxy_at, replica_at, view_at, Happening, Outcome, byte_limit, call_takes, deliver_to, end_marks, fits_mode, give_up, give_up_under, gives_up, handle_in, handle_of_call, is_strong_key, judged, may_give_up, message_limit, nothing, only_learns, opens_none, proxy_did, proxy_takes, proxy_takes_as, replica_takes, sends, start, start_at, step, ticket_marks, with_proxy, with_replica, Event, Deliver, GiveUp, Publish, Start, StopProxy, StopReplica, Limit, NoActor, NoCall, NoKey, NoMessage, WrongMode, LiveCall, next_call}
 use Rattle.wire_msg.specs.declared.actor.Actor.TheVariants as to
 use Rattle.wire_msg.specs.declared.outputs.Reply.TheVariants as r
-use Rattle.slot_pool.specs.declared.handles.Handle.{Handle}
-use Rattle.slot_pool.specs.Slots.{item_at, after_take}
 use Rattle.replica_core.specs.Rule as replica
-use Rattle.epoch_directory.specs.declared.table.SetPolicy.{SetPolicy}
-use Rattle.epoch_directory.specs.declared.table.PublishFault.{PublishFault}
-use Rattle.epoch_directory.specs.State.{latest, State}
-use Rattle.epoch_directory.specs.Tables.{after_publish, table_fault}
 use Rattle.epoch_directory.specs.declared.table.PublishFault.TheVariants as fault
 use Rattle.epoch_directory.specs.Step as directory_step
-use Rattle.run_marks.specs.declared.mark.Work.{Work}
-use Rattle.run_marks.specs.declared.mark.Mark.{Mark}
 use Rattle.run_marks.specs.declared.mark.Mark.TheVariants as k
-use Rattle.world_core.specs.declared.live.LiveCall.{LiveCall}
-use Rattle.world_core.specs.declared.event.Event.{Event}
-use Rattle.world_core.specs.declared.event.Event.TheVariants.{Start, Deliver, StopReplica, StopProxy, GiveUp, Publish}
-use Rattle.world_core.specs.declared.event.StepFault.TheVariants.{NoActor, NoKey, WrongMode, NoMessage, NoCall, Limit}
-use Rattle.world_core.specs.State.{Store, Proxy, replica_at, proxy_at, view_at}
-use Rattle.world_core.specs.Knowing.{learned}
-use Rattle.world_core.specs.Calls.{tag_of_call}
-use Rattle.world_core.specs.Starting.{Done, starts_as, starts}
-use Rattle.world_core.specs.Step.{Happening, Outcome, nothing, sends, with_proxy, with_replica, proxy_did, is_strong_key, fits_mode, start_at, start, replica_takes, proxy_takes, proxy_takes_as, call_takes, only_learns, handle_in, deliver_to, handle_of_call, may_give_up, gives_up, give_up_under, give_up, opens_none, judged, publish, step, message_limit, byte_limit, ticket_marks, end_marks}
-use Rattle.register_law.specs.Cases.{next_call}
+use Rattle.world_core.specs.Step.{publish}
 use Rattle.audit_law.proofs.Asked.{BeginsRightly, starts_rightly}
 use Rattle.register_law.proofs.Basics.{within_is, not_false}
 
@@ -81,8 +53,7 @@ starting_rightly s p key work =
 -- what a call does with a message begins none
 took_begins_none : (s : Store) (call : Call) (t : Option Stamp) (o : Option Reply) → BeginsRightly s (ticket_marks call t ++ end_marks call o)
 took_begins_none s call None None = tt
-took_begins_none s call None (Some reply) = tt
-took_begins_none s call (Some stamp) o = tt
+took_begins_none s call t o = tt
 
 proxy_took : (s : Store) (proxy : Proxy) (message : Message) (o : Option LiveCall) → BeginsRightly s (option_map_or (call_takes proxy message) o (only_learns proxy)).marks
 proxy_took s proxy message None = tt
@@ -114,8 +85,7 @@ given_up s p seq =
 
 no_epoch : (s : Store) (wrong : PublishFault) → InMarks s (opens_none s wrong)
 no_epoch s (fault.MissingSet set) = tt
-no_epoch s (fault.NotQuorum set) = tt
-no_epoch s _ = tt
+no_epoch s wrong = tt
 
 published : (s : Store) (table : List SetPolicy) → InMarks s (publish s table)
 published s table =

@@ -1,35 +1,14 @@
 -- A read or a write of a strong key ends as its work may, with its latest ticket if it is stored.
-use Rattle.std.proofs.Common.{◌≡◌, ℕ, true, List, refl, sym, ap, ◌∙◌, subst}
-use Rattle.std.specs.Prelude.{Option, Some, None, option_map}
-use Rattle.span_base.specs.declared.ids.Call.{Call}
-use Rattle.ticket_rules.specs.declared.stamp.Stamp.{Stamp}
-use Rattle.wire_msg.specs.declared.message.Message.{Message}
-use Rattle.wire_msg.specs.declared.outputs.View.{View}
-use Rattle.wire_msg.specs.declared.outputs.Reply.{Reply}
-use Rattle.wire_msg.specs.Outputs.{Step}
-use Rattle.wire_msg.specs.declared.message.Message.TheVariants as m
+use Rattle.std.proofs.Common.{◌≡◌, ℕ, true, List, refl, sym, ap, ◌∙◌, subst, Option, Some, None, option_map}
+use Rattle.register_law.proofs.Words.{Call, Stamp, Step, Message, Reply, View, Found, counted, progress_after, best_stamp, done, next_of, value_reply, Next, Fenced, Moved, NumbersOut, Outside, Stored, Unsure, Value, Leg, Progress, Stage, CallState, ToRead, ToWrite, Mark, GivesLatest, IsLatestTicket, answers_of, fits, IsWork, StrongWork as Work, Work as Asked}
 use Rattle.wire_msg.specs.declared.outputs.Reply.TheVariants as r
-use Rattle.call_phase.specs.declared.best.Found.{Found}
-use Rattle.strong_proxy.specs.declared.progress.Stage.{Stage}
-use Rattle.strong_proxy.specs.declared.progress.Leg.{Leg}
-use Rattle.strong_proxy.specs.declared.progress.Progress.{Progress}
-use Rattle.strong_proxy.specs.declared.state.Work.{Work}
-use Rattle.strong_proxy.specs.declared.state.Work.TheVariants.{ToRead, ToWrite}
-use Rattle.strong_proxy.specs.declared.state.CallState.{CallState}
-use Rattle.strong_proxy.specs.declared.next.Next.{Next}
-use Rattle.strong_proxy.specs.declared.next.Next.TheVariants.{Wait, Value, Repair, Store, Stored, Fenced, Unsure, Look, Moved, Outside, NumbersOut, Enter}
-use Rattle.strong_proxy.specs.Counting.{counted, progress_after}
-use Rattle.strong_proxy.specs.Rule.{value_reply, done, next_of, best_stamp}
-use Rattle.run_marks.specs.declared.mark.Work.{Work as Asked}
-use Rattle.run_marks.specs.declared.mark.Mark.{Mark}
 use Rattle.run_marks.specs.declared.mark.Work.TheVariants as w
-use Rattle.register_order.specs.Form.{answers_of, fits, GivesLatest, IsLatestTicket}
-use Rattle.register_law.specs.Live.{IsWork}
 use Rattle.register_law.proofs.Next.{RestsOn, AnswersWhen, at_mark, repaired, rests_on}
-use Rattle.register_law.proofs.Tagged.{counted_tag}
+use Rattle.register_law.proofs.MovesStep.{counted_tag}
 use Rattle.register_law.proofs.CallsOthers.{StrongStep, counts_it, ignores_it}
 use Rattle.audit_law.specs.Live.{StrongLatest}
-use Rattle.register_law.proofs.TagsStrong.{counted_leg}
+use Rattle.register_law.proofs.EndsReads.{work_is_read}
+use Rattle.strong_proxy.proofs.Asked.{progress_after-leg}
 
 -- how a call ends fits its work
 abbrev pub EndFits : Asked → Option Reply → Type 0
@@ -40,10 +19,6 @@ EndFits asked (Some reply) = fits (answers_of asked) reply ≡ true
 abbrev pub EndGives : List Mark → Call → Option Reply → Type 0
 EndGives marks call None = Unit {0}
 EndGives marks call (Some reply) = GivesLatest marks call reply
-
-work_read : (work : Work) (asked : Asked) → work ≡ ToRead → IsWork work asked → asked ≡ w.Read
-work_read ToRead asked e h = h
-work_read (ToWrite value) asked e h = absurd (cc)
 
 pub work_write : (work : Work) (value : List ℕ) (asked : Asked) → work ≡ ToWrite value → IsWork work asked → asked ≡ w.Write value
 work_write ToRead value asked e h = absurd (cc)
@@ -68,18 +43,14 @@ value_gives marks call (Some found) = tt
 
 done_fits : (next : Next) (now : CallState) (view : View) (seen : ℕ) (asked : Asked) → RestsOn now.progress.stage now.work (best_stamp now.best) now.progress view seen next → IsWork now.work asked → EndFits asked (done next now).out.end
 done_fits Value now view seen asked rests h =
-    subst (λ (x : Asked). EndFits x (option_map value_reply now.best)) (sym (work_read now.work asked (answers_read now.progress.stage now.work (best_stamp now.best) now.progress rests) h)) (value_fits now.best)
+    subst (λ (x : Asked). EndFits x (option_map value_reply now.best)) (sym (work_is_read now.work asked (answers_read now.progress.stage now.work (best_stamp now.best) now.progress rests) h)) (value_fits now.best)
 done_fits Stored now view seen asked rests h = subst (λ (x : Asked). fits (answers_of x) (r.Stored now.progress.leg.ticket) ≡ true) (sym (work_write now.work rests.value asked rests.work_is h)) refl
 done_fits Fenced now view seen asked rests h = subst (λ (x : Asked). fits (answers_of x) (r.Fenced now.progress.top_held) ≡ true) (sym (work_write now.work rests.value asked rests.work_is h)) refl
 done_fits Unsure now view seen asked rests h = subst (λ (x : Asked). fits (answers_of x) r.Unsure ≡ true) (sym (work_write now.work rests.value asked rests.work_is h)) refl
 done_fits Moved now view seen asked rests h = either_work now.work asked (r.Moved now.progress.top_gone) h refl (λ value. refl)
 done_fits Outside now view seen asked rests h = either_work now.work asked r.Outside h refl (λ value. refl)
 done_fits NumbersOut now view seen asked rests h = subst (λ (x : Asked). fits (answers_of x) r.NumbersOut ≡ true) (sym (work_write now.work rests.value asked rests.work_is h)) refl
-done_fits Wait now view seen asked rests h = tt
-done_fits Repair now view seen asked rests h = tt
-done_fits Store now view seen asked rests h = tt
-done_fits Look now view seen asked rests h = tt
-done_fits (Enter leg) now view seen asked rests h = tt
+done_fits next now view seen asked rests h = tt
 
 pub write_latest : (work : Work) (value : List ℕ) (marks : List Mark) (call : Call) (leg : Leg) → work ≡ ToWrite value → StrongLatest work marks call leg → IsLatestTicket marks call leg.ticket × (leg.ticket.epoch ≡ leg.epoch)
 write_latest ToRead value marks call leg e h = absurd (cc)
@@ -88,37 +59,18 @@ write_latest (ToWrite v) value marks call leg e h = h
 done_gives : (next : Next) (now : CallState) (view : View) (seen : ℕ) (marks : List Mark) (call : Call) → RestsOn now.progress.stage now.work (best_stamp now.best) now.progress view seen next → StrongLatest now.work marks call now.progress.leg → EndGives marks call (done next now).out.end
 done_gives Value now view seen marks call rests h = value_gives marks call now.best
 done_gives Stored now view seen marks call rests h = (write_latest now.work rests.value marks call now.progress.leg rests.work_is h).0
-done_gives Fenced now view seen marks call rests h = tt
-done_gives Unsure now view seen marks call rests h = tt
-done_gives Moved now view seen marks call rests h = tt
-done_gives Outside now view seen marks call rests h = tt
-done_gives NumbersOut now view seen marks call rests h = tt
-done_gives Wait now view seen marks call rests h = tt
-done_gives Repair now view seen marks call rests h = tt
-done_gives Store now view seen marks call rests h = tt
-done_gives Look now view seen marks call rests h = tt
-done_gives (Enter leg) now view seen marks call rests h = tt
+done_gives next now view seen marks call rests h = tt
 
 done_works : (next : Next) (now : CallState) → (done next now).state.work ≡ now.work
 done_works Value now = refl
-done_works Stored now = refl
-done_works Fenced now = refl
-done_works Unsure now = refl
-done_works Moved now = refl
-done_works Outside now = refl
-done_works NumbersOut now = refl
-done_works Wait now = refl
-done_works Repair now = refl
-done_works Store now = refl
-done_works Look now = refl
-done_works (Enter leg) now = refl
+done_works next now = refl
 
 -- what is latest stays so where an answer counts
 pub counted_latest : (call : CallState) (message : Message) (marks : List Mark) → StrongLatest call.work marks call.progress.phase.tag.call call.progress.leg
     → StrongLatest (counted call message).work marks (counted call message).progress.phase.tag.call (counted call message).progress.leg
 counted_latest call message marks h =
     subst (λ (x : Call). StrongLatest call.work marks x (progress_after call.progress message).leg) (ap (λ t. t.call) (sym (counted_tag call.progress message)))
-    (subst (StrongLatest call.work marks call.progress.phase.tag.call) (sym (counted_leg call.progress message)) h)
+    (subst (StrongLatest call.work marks call.progress.phase.tag.call) (sym (progress_after-leg call.progress message)) h)
 
 pub strong_fits : (call : CallState) (message : Message) (view : View) (seen : ℕ) (step : (Step CallState)) (asked : Asked) → StrongStep call message view seen step → IsWork call.work asked → EndFits asked step.out.end
 strong_fits call message view seen step asked (counts_it is own e) h =

@@ -1,24 +1,12 @@
 -- Whatever call takes a message, what it marks is well formed, and it rests on what it should.
-use Rattle.std.proofs.Common.{◌≡◌, ℕ, List, ◌++◌, refl, sym, subst}
-use Rattle.std.specs.Prelude.{Option, Some, None}
-use Rattle.span_base.specs.declared.ids.Call.{Call}
-use Rattle.ticket_rules.specs.declared.stamp.Stamp.{Stamp}
-use Rattle.wire_msg.specs.declared.message.Message.{Message}
-use Rattle.wire_msg.specs.declared.outputs.View.{View}
-use Rattle.wire_msg.specs.declared.outputs.Reply.{Reply}
+use Rattle.std.proofs.Common.{◌≡◌, ℕ, List, ◌++◌, refl, sym, subst, Option, Some, None}
+use Rattle.register_law.proofs.Words.{Call, Stamp, Message, Reply, View, eventual_rule, strong_rule, Mark, Work, tag_of_call, take, LiveCall, Eventual, EventualMove, Strong, StrongMove}
 use Rattle.wire_msg.specs.declared.outputs.Reply.TheVariants as r
 use Rattle.strong_proxy.specs.Rule as strong
 use Rattle.relay_proxy.specs.Rule as eventual
-use Rattle.migration.specs.Strong.{strong as strong_rule}
-use Rattle.migration.specs.Eventual.{eventual as eventual_rule}
 use Rattle.migration.specs.Move as move
-use Rattle.run_marks.specs.declared.mark.Work.{Work}
-use Rattle.run_marks.specs.declared.mark.Mark.{Mark}
 use Rattle.run_marks.specs.declared.mark.Work.TheVariants as w
-use Rattle.world_core.specs.declared.live.LiveCall.{LiveCall}
-use Rattle.world_core.specs.declared.live.LiveCall.TheVariants.{Strong, Eventual, StrongMove, EventualMove}
-use Rattle.world_core.specs.Calls.{take, tag_of_call}
-use Rattle.register_law.proofs.CallsPosts.{IsMoveEnd, move_posts}
+use Rattle.register_law.proofs.MovesStep.{IsMoveEnd, made_by}
 use Rattle.register_law.proofs.CallsOthers.{strong_step, eventual_out}
 use Rattle.audit_law.specs.Live.{Does, HasLatest}
 use Rattle.audit_law.proofs.StrongFits.{EndFits, EndGives, strong_fits, strong_gives, strong_does}
@@ -34,44 +22,28 @@ move_fits work o is h = subst (λ (x : Work). EndFits x o) (sym is) (by o h)
     by (Some (r.At epoch)) h = refl
     by (Some (r.Current epoch)) h = refl
     by (Some (r.Stale epoch)) h = refl
-    by (Some (r.Value stamp value)) h = absurd h
-    by (Some (r.Stored stamp)) h = absurd h
-    by (Some (r.Moved epoch)) h = absurd h
-    by (Some (r.Fenced held)) h = absurd h
-    by (Some r.Unsure) h = absurd h
-    by (Some r.Outside) h = absurd h
-    by (Some r.Full) h = absurd h
-    by (Some r.NumbersOut) h = absurd h
-    by (Some r.GivenUp) h = absurd h
+    by o h = absurd h
 
 move_gives : (marks : List Mark) (call : Call) (o : Option Reply) → IsMoveEnd o → EndGives marks call o
 move_gives marks call None h = tt
 move_gives marks call (Some (r.At epoch)) h = tt
 move_gives marks call (Some (r.Current epoch)) h = tt
 move_gives marks call (Some (r.Stale epoch)) h = tt
-move_gives marks call (Some (r.Value stamp value)) h = absurd h
-move_gives marks call (Some (r.Stored stamp)) h = absurd h
-move_gives marks call (Some (r.Moved epoch)) h = absurd h
-move_gives marks call (Some (r.Fenced held)) h = absurd h
-move_gives marks call (Some r.Unsure) h = absurd h
-move_gives marks call (Some r.Outside) h = absurd h
-move_gives marks call (Some r.Full) h = absurd h
-move_gives marks call (Some r.NumbersOut) h = absurd h
-move_gives marks call (Some r.GivenUp) h = absurd h
+move_gives marks call o h = absurd h
 
 -- a call ends as its work may
 pub take_fits : (call : LiveCall) (message : Message) (view : View) (seen : ℕ) (work : Work) (marks : List Mark) → Does call work → HasLatest marks call → EndFits work (take call message view seen).out.end
 take_fits (Strong call) message view seen work marks d h = strong_fits call message view seen (strong.step call message view seen) work (strong_step call message view seen) d
 take_fits (Eventual call) message view seen work marks d h = (eventual_goes marks work call message (record { does = d; latest = h })).fits
-take_fits (StrongMove call) message view seen work marks d h = move_fits work (move.step strong_rule call message).out.end d (move_posts strong_rule call message).end
-take_fits (EventualMove call) message view seen work marks d h = move_fits work (move.step eventual_rule call message).out.end d (move_posts eventual_rule call message).end
+take_fits (StrongMove call) message view seen work marks d h = move_fits work (move.step strong_rule call message).out.end d (made_by strong_rule call message).end
+take_fits (EventualMove call) message view seen work marks d h = move_fits work (move.step eventual_rule call message).out.end d (made_by eventual_rule call message).end
 
 -- one that is stored gives its latest ticket
 pub take_gives : (call : LiveCall) (message : Message) (view : View) (seen : ℕ) (work : Work) (marks : List Mark) → Does call work → HasLatest marks call → EndGives marks (tag_of_call call).call (take call message view seen).out.end
 take_gives (Strong call) message view seen work marks d h = strong_gives call message view seen (strong.step call message view seen) marks (strong_step call message view seen) h
 take_gives (Eventual call) message view seen work marks d h = (eventual_goes marks work call message (record { does = d; latest = h })).gives
-take_gives (StrongMove call) message view seen work marks d h = move_gives marks call.phase.tag.call (move.step strong_rule call message).out.end (move_posts strong_rule call message).end
-take_gives (EventualMove call) message view seen work marks d h = move_gives marks call.phase.tag.call (move.step eventual_rule call message).out.end (move_posts eventual_rule call message).end
+take_gives (StrongMove call) message view seen work marks d h = move_gives marks call.phase.tag.call (move.step strong_rule call message).out.end (made_by strong_rule call message).end
+take_gives (EventualMove call) message view seen work marks d h = move_gives marks call.phase.tag.call (move.step eventual_rule call message).out.end (made_by eventual_rule call message).end
 
 -- a call goes on to do its work
 pub take_does : (call : LiveCall) (message : Message) (view : View) (seen : ℕ) (work : Work) (marks : List Mark) → Does call work → HasLatest marks call → Does (take call message view seen).state work
@@ -103,5 +75,5 @@ pub take_drawn : (call : LiveCall) (message : Message) (view : View) (seen : ℕ
     → IsDrawn marks (tag_of_call call).call work stamp (take call message view seen).out.end
 take_drawn (Strong call) message view seen work marks stamp is d h = strong_drawn call message view seen (strong.step call message view seen) marks work stamp (strong_step call message view seen) is h d
 take_drawn (Eventual call) message view seen work marks stamp is d h = no_ticket (eventual.step call message).out.ticket stamp (IsDrawn marks call.phase.tag.call work stamp (eventual.step call message).out.end) (eventual_out call message).ticket is
-take_drawn (StrongMove call) message view seen work marks stamp is d h = no_ticket (move.step strong_rule call message).out.ticket stamp (IsDrawn marks call.phase.tag.call work stamp (move.step strong_rule call message).out.end) (move_posts strong_rule call message).ticket is
-take_drawn (EventualMove call) message view seen work marks stamp is d h = no_ticket (move.step eventual_rule call message).out.ticket stamp (IsDrawn marks call.phase.tag.call work stamp (move.step eventual_rule call message).out.end) (move_posts eventual_rule call message).ticket is
+take_drawn (StrongMove call) message view seen work marks stamp is d h = no_ticket (move.step strong_rule call message).out.ticket stamp (IsDrawn marks call.phase.tag.call work stamp (move.step strong_rule call message).out.end) (made_by strong_rule call message).ticket is
+take_drawn (EventualMove call) message view seen work marks stamp is d h = no_ticket (move.step eventual_rule call message).out.ticket stamp (IsDrawn marks call.phase.tag.call work stamp (move.step eventual_rule call message).out.end) (made_by eventual_rule call message).ticket is

@@ -1,41 +1,16 @@
 -- The tickets of a call rise, and the one that it has stays its latest.
-use Rattle.std.proofs.Common.{◌≡◌, inl, inr, ℕ, ◌<◌, true, List, ◌++◌, refl, sym, ap, ◌∙◌, subst, arith}
-use Rattle.std.specs.Prelude.{Option, Some, None, Contains}
-use Rattle.std.proofs.lemmas.Grind.{common_steps}
-use Rattle.std.proofs.lemmas.List.Elements.{Contains-append_left, Contains-append_right, Contains-append_cases}
-use Rattle.span_base.specs.declared.ids.Call.{Call}
-use Rattle.ticket_rules.specs.declared.stamp.Stamp.{Stamp}
-use Rattle.ticket_rules.specs.Stamp.{IsAbove, IsAtMost}
-use Rattle.wire_msg.specs.declared.tag.Tag.{Tag}
-use Rattle.wire_msg.specs.declared.message.Message.{Message}
-use Rattle.wire_msg.specs.declared.outputs.View.{View}
-use Rattle.wire_msg.specs.declared.outputs.Reply.{Reply}
-use Rattle.wire_msg.specs.Outputs.{Step}
-use Rattle.strong_proxy.specs.declared.progress.Leg.{Leg}
-use Rattle.strong_proxy.specs.declared.progress.Progress.{Progress}
-use Rattle.strong_proxy.specs.declared.state.Work.{Work}
-use Rattle.strong_proxy.specs.declared.state.Work.TheVariants.{ToRead, ToWrite}
-use Rattle.strong_proxy.specs.declared.state.CallState.{CallState}
-use Rattle.strong_proxy.specs.declared.next.Next.{Next}
-use Rattle.strong_proxy.specs.declared.next.Next.TheVariants.{Wait, Value, Repair, Store, Stored, Fenced, Unsure, Look, Moved, Outside, NumbersOut, Enter}
-use Rattle.strong_proxy.specs.Counting.{counted}
-use Rattle.strong_proxy.specs.Rule.{leg_ticket, done, next_of, best_stamp}
-use Rattle.relay_proxy.specs.declared.stage.Stage.{Stage as Doing}
+use Rattle.std.proofs.Common.{◌≡◌, inl, inr, ℕ, ◌<◌, true, List, ◌++◌, refl, sym, ap, ◌∙◌, subst, arith, Option, Some, None, Contains}
+use Rattle.register_law.proofs.Words.{Call, IsAbove, IsAtMost, Stamp, Step, Message, Reply, View, Tag, counted, best_stamp, done, leg_ticket, next_of, Next, Enter, Leg, Progress, CallState, ToRead, ToWrite, Doing, Mark, IsLatestTicket, draws, IsWork, common_steps, Contains-append_left, Contains-append_right, Contains-append_cases, StrongWork as Work, Work as Asked, IsAtMost-trans}
 use Rattle.relay_proxy.specs.declared.stage.Stage.TheVariants as doing
-use Rattle.run_marks.specs.declared.mark.Work.{Work as Asked}
-use Rattle.run_marks.specs.declared.mark.Mark.{Mark}
 use Rattle.run_marks.specs.declared.mark.Mark.TheVariants as k
-use Rattle.register_order.specs.Form.{IsLatestTicket, draws}
-use Rattle.register_law.specs.Live.{IsWork}
 use Rattle.register_law.proofs.Growth.{at_most_itself}
 use Rattle.register_law.proofs.Next.{RestsOn, EntersWhen, EntersWith, rests_on}
-use Rattle.register_law.proofs.Tagged.{counted_tag}
+use Rattle.register_law.proofs.MovesStep.{counted_tag}
 use Rattle.register_law.proofs.CallsOthers.{StrongStep, counts_it, ignores_it}
 use Rattle.audit_law.specs.Live.{StrongLatest, EventualLatest}
 use Rattle.audit_law.proofs.StrongFits.{counted_latest}
 use Rattle.register_law.proofs.Basics.{some_stamp}
-use Rattle.register_order.proofs.Stamps.{IsAtMost-trans}
-use Rattle.register_law.proofs.CallsEnter.{earlier_epoch}
+use Rattle.register_law.proofs.CallsGoes.{earlier_epoch}
 
 -- among these marks the call draws this ticket, and no other
 pub record DrawsOnly (call : Call) (ticket : Option Stamp) (more : List Mark) : Type 0 where
@@ -98,18 +73,8 @@ entered_latest (ToWrite value) marks more call old new later d h = let l = later
 
 done_latest : (next : Next) (now : CallState) (view : View) (seen : ℕ) (marks more : List Mark) → RestsOn now.progress.stage now.work (best_stamp now.best) now.progress view seen next → DrawsOnly now.progress.phase.tag.call (done next now).out.ticket more
     → StrongLatest now.work marks now.progress.phase.tag.call now.progress.leg → StrongLatest (done next now).state.work (marks ++ more) (done next now).state.progress.phase.tag.call (done next now).state.progress.leg
-done_latest Wait now view seen marks more rests d h = strong_stays now.work marks more now.progress.phase.tag.call now.progress.leg d h
-done_latest Value now view seen marks more rests d h = strong_stays now.work marks more now.progress.phase.tag.call now.progress.leg d h
-done_latest Repair now view seen marks more rests d h = strong_stays now.work marks more now.progress.phase.tag.call now.progress.leg d h
-done_latest Store now view seen marks more rests d h = strong_stays now.work marks more now.progress.phase.tag.call now.progress.leg d h
-done_latest Stored now view seen marks more rests d h = strong_stays now.work marks more now.progress.phase.tag.call now.progress.leg d h
-done_latest Fenced now view seen marks more rests d h = strong_stays now.work marks more now.progress.phase.tag.call now.progress.leg d h
-done_latest Unsure now view seen marks more rests d h = strong_stays now.work marks more now.progress.phase.tag.call now.progress.leg d h
-done_latest Look now view seen marks more rests d h = strong_stays now.work marks more now.progress.phase.tag.call now.progress.leg d h
-done_latest Moved now view seen marks more rests d h = strong_stays now.work marks more now.progress.phase.tag.call now.progress.leg d h
-done_latest Outside now view seen marks more rests d h = strong_stays now.work marks more now.progress.phase.tag.call now.progress.leg d h
-done_latest NumbersOut now view seen marks more rests d h = strong_stays now.work marks more now.progress.phase.tag.call now.progress.leg d h
 done_latest (Enter leg) now view seen marks more rests d h = entered_latest now.work marks more now.progress.phase.tag.call now.progress.leg leg (λ value is. leg_later leg now view seen value rests is) d h
+done_latest next now view seen marks more rests d h = strong_stays now.work marks more now.progress.phase.tag.call now.progress.leg d h
 
 pub strong_latest : (call : CallState) (message : Message) (view : View) (seen : ℕ) (step : (Step CallState)) (marks more : List Mark) → StrongStep call message view seen step → DrawsOnly call.progress.phase.tag.call step.out.ticket more
     → StrongLatest call.work marks call.progress.phase.tag.call call.progress.leg → StrongLatest step.state.work (marks ++ more) step.state.progress.phase.tag.call step.state.progress.leg
@@ -141,18 +106,8 @@ entered_drawn (ToWrite value) marks call old new asked stamp later is h work =
 
 done_drawn : (next : Next) (now : CallState) (view : View) (seen : ℕ) (marks : List Mark) (asked : Asked) (stamp : Stamp) → RestsOn now.progress.stage now.work (best_stamp now.best) now.progress view seen next → (done next now).out.ticket ≡ Some stamp
     → StrongLatest now.work marks now.progress.phase.tag.call now.progress.leg → IsWork now.work asked → IsDrawn marks now.progress.phase.tag.call asked stamp (done next now).out.end
-done_drawn Wait now view seen marks asked stamp rests is h work = absurd (cc)
-done_drawn Value now view seen marks asked stamp rests is h work = absurd (cc)
-done_drawn Repair now view seen marks asked stamp rests is h work = absurd (cc)
-done_drawn Store now view seen marks asked stamp rests is h work = absurd (cc)
-done_drawn Stored now view seen marks asked stamp rests is h work = absurd (cc)
-done_drawn Fenced now view seen marks asked stamp rests is h work = absurd (cc)
-done_drawn Unsure now view seen marks asked stamp rests is h work = absurd (cc)
-done_drawn Look now view seen marks asked stamp rests is h work = absurd (cc)
-done_drawn Moved now view seen marks asked stamp rests is h work = absurd (cc)
-done_drawn Outside now view seen marks asked stamp rests is h work = absurd (cc)
-done_drawn NumbersOut now view seen marks asked stamp rests is h work = absurd (cc)
 done_drawn (Enter leg) now view seen marks asked stamp rests is h work = entered_drawn now.work marks now.progress.phase.tag.call now.progress.leg leg asked stamp (λ value e. leg_later leg now view seen value rests e) is h work
+done_drawn next now view seen marks asked stamp rests is h work = absurd (cc)
 
 pub strong_drawn : (call : CallState) (message : Message) (view : View) (seen : ℕ) (step : (Step CallState)) (marks : List Mark) (asked : Asked) (stamp : Stamp) → StrongStep call message view seen step → step.out.ticket ≡ Some stamp
     → StrongLatest call.work marks call.progress.phase.tag.call call.progress.leg → IsWork call.work asked → IsDrawn marks call.progress.phase.tag.call asked stamp step.out.end

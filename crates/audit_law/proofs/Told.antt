@@ -1,37 +1,18 @@
 -- After each event the lines tell of each call that lives what they should.
-use Rattle.std.proofs.Common.{◌≡◌, ℕ, List, ◌∷◌, ◌++◌, refl, sym, ap, subst, arith}
-use Rattle.std.specs.Prelude.{Option, Some, None, Contains}
-use Rattle.std.proofs.lemmas.List.Elements.{Contains-append_left, Contains-append_right}
-use Rattle.span_base.specs.declared.ids.Call.{Call}
-use Rattle.span_base.specs.declared.ids.KeyId.{KeyId}
-use Rattle.ticket_rules.specs.declared.stamp.Stamp.{Stamp}
-use Rattle.wire_msg.specs.declared.tag.Tag.{Tag}
-use Rattle.wire_msg.specs.declared.message.Message.{Message}
-use Rattle.wire_msg.specs.declared.outputs.View.{View}
-use Rattle.wire_msg.specs.declared.outputs.Outputs.{Outputs}
-use Rattle.wire_msg.specs.declared.outputs.Reply.{Reply}
-use Rattle.wire_msg.specs.Posts.{tag_of}
-use Rattle.slot_pool.specs.declared.handles.Handle.{Handle}
-use Rattle.run_marks.specs.declared.mark.Work.{Work}
-use Rattle.run_marks.specs.declared.mark.Mark.{Mark}
+use Rattle.std.proofs.Common.{◌≡◌, ℕ, List, ◌∷◌, ◌++◌, refl, sym, ap, subst, arith, Option, Some, None, Contains}
+use Rattle.register_law.proofs.Words.{Call, KeyId, Stamp, tag_of, Message, Outputs, Reply, View, Tag, Handle, Mark, Work, key_of_call, tag_of_call, learned, Store, proxy_at, view_at, Happening, end_marks, handle_in, is_strong_key, ticket_marks, LiveCall, CallTook, Happened, Started, next_call, IsLiveAt, Contains-append_left, Contains-append_right}
 use Rattle.run_marks.specs.declared.mark.Mark.TheVariants as k
-use Rattle.world_core.specs.declared.live.LiveCall.{LiveCall}
-use Rattle.world_core.specs.State.{Store, proxy_at, view_at}
-use Rattle.world_core.specs.Knowing.{learned}
-use Rattle.world_core.specs.Calls.{tag_of_call, key_of_call}
-use Rattle.world_core.specs.Step.{Happening, handle_in, is_strong_key, ticket_marks, end_marks}
 use Rattle.world_core.specs.Starting as starting
-use Rattle.register_law.specs.Tags.{IsLiveAt}
-use Rattle.register_law.specs.Cases.{Happened, Started, CallTook, next_call}
-use Rattle.register_law.proofs.TagsSteps.{GoesOn, stays, turns, ends, may_ask, take_goes_on}
-use Rattle.register_law.proofs.TagsFresh.{started_opens}
+use Rattle.register_law.proofs.TagsSends.{GoesOn, stays, turns, ends}
+use Rattle.register_law.proofs.TagsSteps.{may_ask, take_goes_on}
+use Rattle.register_law.proofs.TagsCalls.{started_opens, taken_of}
 use Rattle.register_law.proofs.CallsOthers.{take_ticket}
-use Rattle.register_law.proofs.CallsApart.{LiveAfter, stayed, begun, went_on, tickets_in, taken_by}
-use Rattle.register_law.proofs.CallsLive.{live_after}
+use Rattle.register_law.proofs.CallsLive.{LiveAfter, stayed, begun, went_on, tickets_in, live_after}
 use Rattle.register_law.proofs.MarksAre.{start_ticket}
 use Rattle.audit_law.specs.Live.{HasLatest, IsTold, LogIsFormed}
 use Rattle.audit_law.proofs.Tickets.{DrawsOnly}
 use Rattle.audit_law.proofs.Takes.{take_does, take_latest, latest_stays}
+use Rattle.register_law.proofs.CallsRows.{opens}
 use Rattle.audit_law.proofs.Opened.{IsBegun, call_begun, begun_does, begun_latest}
 use Rattle.audit_law.proofs.Unended.{next_call_is_new, unended_after}
 
@@ -44,18 +25,18 @@ goes_call May tag key call out (turns k t sends) = ap (λ (x : Tag). x.call) t
 goes_call May tag key call out (ends k t some sends) = ap (λ (x : Tag). x.call) t
 
 -- a call that takes a message stays the call that it is
-same_call : (s : Store) (p : ℕ) (message : Message) (was : LiveCall) → (tag_of_call (taken_by s p message was).state).call ≡ (tag_of_call was).call
+same_call : (s : Store) (p : ℕ) (message : Message) (was : LiveCall) → (tag_of_call (taken_of s p message was).state).call ≡ (tag_of_call was).call
 same_call s p message was =
-    goes_call (may_ask was) (tag_of_call was) (key_of_call was) (taken_by s p message was).state (taken_by s p message was).out
+    goes_call (may_ask was) (tag_of_call was) (key_of_call was) (taken_of s p message was).state (taken_of s p message was).out
     (take_goes_on was message (view_at (learned (proxy_at s p) message).views (key_of_call was)) (learned (proxy_at s p) message).seen)
 
 -- the tickets of an event in which a call takes a message are this call's
-pub took_draws : (s : Store) (p : ℕ) (message : Message) (was : LiveCall) → DrawsOnly (tag_of_call was).call (taken_by s p message was).out.ticket (ticket_marks (tag_of message).call (taken_by s p message was).out.ticket ++ end_marks (tag_of message).call (taken_by s p message was).out.end)
+pub took_draws : (s : Store) (p : ℕ) (message : Message) (was : LiveCall) → DrawsOnly (tag_of_call was).call (taken_of s p message was).out.ticket (ticket_marks (tag_of message).call (taken_of s p message was).out.ticket ++ end_marks (tag_of message).call (taken_of s p message was).out.end)
 took_draws s p message was = record {
   drawn = λ stamp e.
       let own : tag_of_call was ≡ tag_of message = take_ticket was message (view_at (learned (proxy_at s p) message).views (key_of_call was)) (learned (proxy_at s p) message).seen stamp e in
-      there (taken_by s p message was).out.ticket (taken_by s p message was).out.end (tag_of_call was).call (tag_of message).call stamp e (ap (λ (t : Tag). t.call) own);
-  only = λ stamp c. (tickets_in (tag_of message).call (tag_of_call was).call (taken_by s p message was).out.ticket (taken_by s p message was).out.end stamp c).0;
+      there (taken_of s p message was).out.ticket (taken_of s p message was).out.end (tag_of_call was).call (tag_of message).call stamp e (ap (λ (t : Tag). t.call) own);
+  only = λ stamp c. (tickets_in (tag_of message).call (tag_of_call was).call (taken_of s p message was).out.ticket (taken_of s p message was).out.end stamp c).0;
 }
   where
     there : (t : Option Stamp) (o : Option Reply) (own call : Call) (stamp : Stamp) → t ≡ Some stamp → own ≡ call → Contains (ticket_marks call t ++ end_marks call o) (k.Ticket own stamp)
@@ -72,7 +53,7 @@ told_begun s h marks f p at work st unended =
     let own : (tag_of_call st.taken.state).call ≡ next_call s p = ap (λ (t : Tag). t.call) opened.tag_is in
     let marks_is : h.marks ≡ k.Begin (next_call s p) at work ∷ starting.ticket_marks (next_call s p) (start_ticket s p at) work = ap (λ (x : Happening). x.marks) st.is in
     let is_begun : IsBegun work (start_ticket s p at) st.taken.state =
-    call_begun (is_strong_key s at) (starting.first_tag (next_call s p) st.handle) (proxy_at s p).at (view_at (proxy_at s p).views at) (start_ticket s p at) work st.taken refl st.first in
+    call_begun _ _ _ _ (start_ticket s p at) work st.taken refl (opens (is_strong_key s at) (starting.first_tag (next_call s p) st.handle) (proxy_at s p).at (view_at (proxy_at s p).views at) (start_ticket s p at) work st.taken st.first) in
     record {
       at = at;
       work = work;
@@ -87,12 +68,12 @@ told_begun s h marks f p at work st unended =
 
 -- a call that took a message and lives on
 told_took : (s : Store) (h : Happening) (marks : List Mark) → LogIsFormed s marks → (p : ℕ) (message : Message) (was : LiveCall) → CallTook s p message was h
-    → ((reply : Reply) → Contains (marks ++ h.marks) (k.End (tag_of_call (taken_by s p message was).state).call reply) → ⊥) → IsTold (marks ++ h.marks) (taken_by s p message was).state
+    → ((reply : Reply) → Contains (marks ++ h.marks) (k.End (tag_of_call (taken_of s p message was).state).call reply) → ⊥) → IsTold (marks ++ h.marks) (taken_of s p message was).state
 told_took s h marks f p message was took unended =
     let old : IsTold marks was = f.live p (handle_in message) was took.live in
     let view : View = view_at (learned (proxy_at s p) message).views (key_of_call was) in
-    let draws : DrawsOnly (tag_of_call was).call (taken_by s p message was).out.ticket h.marks =
-    subst (DrawsOnly (tag_of_call was).call (taken_by s p message was).out.ticket) (sym (ap (λ (x : Happening). x.marks) took.is)) (took_draws s p message was) in
+    let draws : DrawsOnly (tag_of_call was).call (taken_of s p message was).out.ticket h.marks =
+    subst (DrawsOnly (tag_of_call was).call (taken_of s p message was).out.ticket) (sym (ap (λ (x : Happening). x.marks) took.is)) (took_draws s p message was) in
     record {
       at = old.at;
       work = old.work;
@@ -103,7 +84,7 @@ told_took s h marks f p message was took unended =
     }
 
 pub told_after : (s : Store) (h : Happening) (marks : List Mark) → Happened s h → LogIsFormed s marks → (p : ℕ) (handle : Handle) (live : LiveCall) → IsLiveAt h.store p handle live → IsTold (marks ++ h.marks) live
-told_after s h marks is f p handle live lives = by (live_after s h f.tags f.tags.live_once is p handle live lives)
+told_after s h marks is f p handle live lives = by (live_after s h f.tags is p handle live lives)
   where
     unended : (reply : Reply) → Contains (marks ++ h.marks) (k.End (tag_of_call live).call reply) → ⊥
     unended reply c = unended_after s h marks is f p handle live lives reply c

@@ -1,26 +1,14 @@
--- Every event keeps what an answer tells with its request.
-use Rattle.std.proofs.Common.{◌≡◌, ℕ, ◌≤◌, Bool, true, false, List, refl, sym, ap, subst, arith}
-use Rattle.std.specs.Prelude.{nat_lt, nat_le, max, ◌&&◌, if◌then◌else◌}
+-- Every event keeps what the answers of replicas tell.
+use Rattle.std.proofs.Common.{◌≡◌, ℕ, ◌≤◌, Bool, true, false, List, refl, sym, ap, subst, arith, nat_lt, nat_le, max, ◌&&◌, if◌then◌else◌}
 use Rattle.std.proofs.lemmas.Bool.{lt-ltb, le-ltb, ltb-false, le-leb}
-use Rattle.span_base.specs.declared.ids.KeyId.{KeyId}
-use Rattle.ticket_rules.specs.declared.stamp.Stamp.{Stamp}
-use Rattle.ticket_rules.specs.Stamp.{IsAtMost}
-use Rattle.wire_msg.specs.declared.tag.Tag.{Tag}
+use Rattle.register_law.proofs.Words.{KeyId, IsAtMost, Stamp, Tag, Kept, Store, kept_of, Happening, Happened, Ghost, noted_of, Inv, Grows, IsKept, IsKnown, WasSent, version_before, IsAtMost-trans}
 use Rattle.wire_msg.specs.declared.message.Message.TheVariants as m
-use Rattle.replica_core.specs.declared.kept.Kept.{Kept}
-use Rattle.world_core.specs.State.{Store, kept_of}
-use Rattle.world_core.specs.Step.{Happening}
-use Rattle.register_law.specs.Ghost.{Ghost, noted_of}
-use Rattle.register_law.specs.Seen.{Grows, WasSent, IsKnown, IsKept, version_before}
-use Rattle.register_law.specs.Cases.{Happened}
-use Rattle.register_law.specs.Invariant.{Inv}
-use Rattle.register_law.proofs.Stable.{known_stays}
-use Rattle.register_law.proofs.Growth.{at_most_itself}
-use Rattle.register_law.proofs.TagsAlike.{point_of}
-use Rattle.register_law.proofs.ReplicasStable.{kept_stays, grows_by}
-use Rattle.register_law.proofs.AnswersFrom.{both_sent, now_replied, pair_is}
-use Rattle.register_law.proofs.AnswersTold.{Reaches, Shows, Froze, read_replied, freeze_replied, store_replied, repair_replied, seed_replied}
-use Rattle.register_order.proofs.Stamps.{IsAtMost-trans}
+use Rattle.register_law.proofs.MovesStable.{known_stays, kept_stays}
+use Rattle.register_law.proofs.Growth.{at_most_itself, grows_by}
+use Rattle.register_law.proofs.Basics.{point_of}
+use Rattle.register_law.proofs.AnswersTold.{both_sent, now_replied, pair_is, Reaches, Shows, Froze, read_replied, freeze_replied, store_replied, repair_replied, seed_replied}
+use Rattle.register_law.specs.Replicas.{AnswersTell}
+use Rattle.register_law.proofs.AnswersFence.{have_read_after, yes_ask_after, fence_leg_after}
 
 -- a replica that isn't frozen for the epoch has what its version has
 pub reaches_before : (key : KeyId) (z : Store) (g : Ghost) (d epoch : ℕ) (stamp : Stamp) → Reaches epoch stamp (kept_of z d key) → IsAtMost stamp (version_before key z g d epoch)
@@ -105,3 +93,16 @@ freeze_known_after key s g h is inv tag epoch d version mark value asked told =
       | both_sent a b ↦ inv.messages.freeze_known tag epoch d version mark value a b
       | now_replied r ↦ shown_known key s g d version mark value inv (freeze_replied key s h tag tag epoch d version mark value r).shows
     ])
+
+-- ---- every event keeps what the replicas' answers tell
+
+pub answers_kept : (key : KeyId) (s : Store) (g : Ghost) (h : Happening) → Happened s h → Inv key s g → AnswersTell key h.store (noted_of key s h g)
+answers_kept key s g h is inv = record {
+  have_read = have_read_after key s g h is inv;
+  yes_ask = yes_ask_after key s g h is inv;
+  fence_leg = fence_leg_after key s g h is inv;
+  yes_store = yes_store_after key s g h is inv;
+  yes_repair = yes_repair_after key s g h is inv;
+  yes_seed = yes_seed_after key s g h is inv;
+  have_freeze = have_freeze_after key s g h is inv;
+}

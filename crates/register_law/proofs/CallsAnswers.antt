@@ -1,35 +1,15 @@
--- What each kind of answer adds to what counted.
-use Rattle.std.proofs.Common.{◌≡◌, ◌≢◌, ◌⊎◌, inl, inr, ℕ, ◌<◌, Bool, true, false, List, refl, sym, ◌∙◌, subst, arith}
-use Rattle.std.specs.Prelude.{◌&&◌, ◌==◌, not, if◌then◌else◌, Option, Some, None}
-use Rattle.std.specs.Ordering.{is_gt}
-use Rattle.std.proofs.lemmas.Grind.{common_steps}
-use Rattle.span_base.specs.declared.ids.DcId.{DcId}
-use Rattle.span_base.specs.declared.dc_set.DcSet.{DcSet}
-use Rattle.span_base.specs.DcSet.{has, insert}
-use Rattle.span_base.proofs.Sets.{has-insert_same, has-insert_other, has-below}
-use Rattle.ticket_rules.specs.declared.stamp.Stamp.{Stamp}
-use Rattle.ticket_rules.specs.Stamp.{stamp_cmp, stamp_zero, IsAtMost, greater}
-use Rattle.wire_msg.specs.declared.tag.Tag.{Tag}
+-- An answer that counts keeps what a read or a write rests on.
+use Rattle.std.proofs.Common.{◌≡◌, inl, inr, ℕ, ◌<◌, Bool, true, false, List, refl, sym, subst, arith, ◌&&◌, not, if◌then◌else◌, Option, Some, None, ◌∙◌, max, IsSome}
+use Rattle.register_law.proofs.Words.{has, insert, DcSet, DcId, IsAtMost, greater, stamp_cmp, stamp_zero, Stamp, Tag, better, counts, is_same_tag, Found, Phase, takes_have, takes_yes, Stage, Ended, First, Looking, Second, CallState, ToRead, ToWrite, Store, FirstCounted, HasAnswered, StrongCounted, YesCounted, WasSent, KeyId, tag_of, Message, counted, is_counted, Ghost, IsStrongRequest, TagsTellApart, request_key, CallBacked, is_gt, common_steps, has-insert_same, has-below, StrongWork as Work, IsAtMost-trans}
 use Rattle.wire_msg.specs.declared.message.Message.TheVariants as m
-use Rattle.call_phase.specs.declared.best.Found.{Found}
-use Rattle.call_phase.specs.declared.phase.Phase.{Phase}
-use Rattle.call_phase.specs.Best.{better}
-use Rattle.call_phase.specs.Counting.{is_same_tag, counts}
 use Rattle.call_phase.proofs.Tags.{same_tag}
-use Rattle.strong_proxy.specs.declared.progress.Stage.{Stage}
-use Rattle.strong_proxy.specs.declared.progress.Stage.TheVariants.{First, Second, Looking, Ended}
-use Rattle.strong_proxy.specs.declared.state.Work.{Work}
-use Rattle.strong_proxy.specs.declared.state.Work.TheVariants.{ToRead, ToWrite}
-use Rattle.strong_proxy.specs.declared.state.CallState.{CallState}
-use Rattle.strong_proxy.specs.Counting.{takes_have, takes_yes}
-use Rattle.world_core.specs.State.{Store}
-use Rattle.register_law.specs.Seen.{WasSent}
-use Rattle.register_law.specs.Live.{HasAnswered, WasMarked, YesCounted, FirstCounted, StrongCounted}
-use Rattle.register_law.proofs.Growth.{at_most_itself}
-use Rattle.register_law.proofs.Chain.{at_most_is, at_most_trans, at_most_test}
-use Rattle.register_law.proofs.CallsRecount.{recounted}
-use Rattle.register_order.proofs.Stamps.{IsAtMost-trans}
-use Rattle.register_law.proofs.Quorums.{inserted, stays_in}
+use Rattle.strong_proxy.specs.Counting.{held_after}
+use Rattle.register_law.proofs.Growth.{second_below, at_most_itself}
+use Rattle.register_law.specs.Live.{WasMarked}
+use Rattle.register_law.proofs.CallsPhase.{recounted, recount}
+use Rattle.register_law.proofs.Quorums.{inserted, stays_in, and_left, and_right}
+use Rattle.register_law.proofs.MovesStep.{counted_is_own}
+use Rattle.register_law.proofs.Basics.{point_of}
 
 -- an answer that counts has the phase's tag, and is of a replica that was asked
 pub record Counts (phase : Phase) (tag : Tag) (replica : DcId) : Type 0 where
@@ -59,14 +39,10 @@ yes_more s phase replica bad sent old d h =
 
 pub counted_yes : (s : Store) (work : Work) (stage : Stage) (call : CallState) (replica : DcId) (h : takes_yes work stage ≡ true) → WasSent s (m.Yes call.progress.phase.tag replica) → StrongCounted s work stage call
     → StrongCounted s work stage (recounted call call.best (insert call.progress.phase.good replica.0) call.progress.phase.bad call.progress.top_mark call.progress.had_gone call.progress.top_gone call.progress.top_held)
-counted_yes s ToRead First call replica h sent old = absurd (cc)
 counted_yes s (ToWrite value) First call replica h sent old = yes_more s call.progress.phase replica call.progress.phase.bad sent old
 counted_yes s ToRead Second call replica h sent old = yes_more s call.progress.phase replica call.progress.phase.bad sent old
 counted_yes s (ToWrite value) Second call replica h sent old = yes_more s call.progress.phase replica call.progress.phase.bad sent old
-counted_yes s ToRead Looking call replica h sent old = absurd (cc)
-counted_yes s (ToWrite value) Looking call replica h sent old = absurd (cc)
-counted_yes s ToRead Ended call replica h sent old = absurd (cc)
-counted_yes s (ToWrite value) Ended call replica h sent old = absurd (cc)
+counted_yes s work stage call replica h sent old = absurd (cc)
 
 -- a refusal counts for nothing that was answered
 first_refused : (s : Store) (call : CallState) (best : Option Found) (bad : DcSet) (had : Bool) (gone : ℕ) (held : Stamp) → FirstCounted s call best
@@ -85,13 +61,6 @@ counted_refused s (ToWrite value) First call bad had gone held old = λ d c. old
 counted_refused s work Second call bad had gone held old = λ d c. old d c
 counted_refused s work Looking call bad had gone held old = tt
 counted_refused s work Ended call bad had gone held old = tt
-
-below_greater : (a b : Stamp) → IsAtMost b (greater a b)
-below_greater a b = chosen (is_gt (stamp_cmp b a)) refl
-  where
-    chosen : (t : Bool) → is_gt (stamp_cmp b a) ≡ t → IsAtMost b (if t then b else a)
-    chosen true e = at_most_itself b
-    chosen false e = grind (arith, common_steps)
 
 lower : (a b : Stamp) → is_gt (stamp_cmp b a) ≡ true → IsAtMost a b
 lower a b e = grind (arith, common_steps)
@@ -125,7 +94,7 @@ have_more s call replica version mark value None asked sent old =
     let zero : greater call.progress.top_mark mark ≡ mark = subst (λ x. greater x mark ≡ mark) (sym old.1) (over_zero mark) in
     record {
       each = λ d c. elim (inserted call.progress.phase.good replica.0 d c) as (λ _. HasAnswered s call.progress.phase.tag d (record { stamp = version; value = value }) (greater call.progress.top_mark mark)) [
-        | inl e ↦ record { version = version; marked = mark; value = value; sent = subst (λ n. WasSent s (m.Have call.progress.phase.tag (record { 0 = n }) version mark value)) (sym e) sent; below = at_most_itself version; below_mark = below_greater call.progress.top_mark mark }
+        | inl e ↦ record { version = version; marked = mark; value = value; sent = subst (λ n. WasSent s (m.Have call.progress.phase.tag (record { 0 = n }) version mark value)) (sym e) sent; below = at_most_itself version; below_mark = second_below call.progress.top_mark mark }
         | inr was ↦ absurd (let no = old.0 d in cc)
       ];
       found = record { d = replica.0; mark = mark; counted = has-insert_same call.progress.phase.good replica.0 lt; sent = sent };
@@ -139,7 +108,7 @@ have_more s call replica version mark value (Some best) asked sent old = chosen 
     each_is : (now : Found) → IsAtMost version now.stamp → IsAtMost best.stamp now.stamp → (d : ℕ) → has (insert call.progress.phase.good replica.0) d ≡ true → HasAnswered s call.progress.phase.tag d now (greater call.progress.top_mark mark)
     each_is now a b d c =
         elim (inserted call.progress.phase.good replica.0 d c) as (λ _. HasAnswered s call.progress.phase.tag d now (greater call.progress.top_mark mark)) [
-          | inl e ↦ record { version = version; marked = mark; value = value; sent = subst (λ n. WasSent s (m.Have call.progress.phase.tag (record { 0 = n }) version mark value)) (sym e) sent; below = a; below_mark = below_greater call.progress.top_mark mark }
+          | inl e ↦ record { version = version; marked = mark; value = value; sent = subst (λ n. WasSent s (m.Have call.progress.phase.tag (record { 0 = n }) version mark value)) (sym e) sent; below = a; below_mark = second_below call.progress.top_mark mark }
           | inr was ↦ (let o = old.each d was in record { version = o.version; marked = o.marked; value = o.value; sent = o.sent; below = IsAtMost-trans o.version best.stamp now.stamp o.below b; below_mark = above_greater call.progress.top_mark mark o.marked o.below_mark })
         ]
 
@@ -166,27 +135,62 @@ have_more s call replica version mark value (Some best) asked sent old = chosen 
 -- Have counts in a read's first phase alone
 pub in_first : (work : Work) (stage : Stage) → takes_have work stage ≡ true → (work ≡ ToRead) × (stage ≡ First)
 in_first ToRead First h = (refl, refl)
-in_first ToRead Second h = absurd (cc)
-in_first ToRead Looking h = absurd (cc)
-in_first ToRead Ended h = absurd (cc)
-in_first (ToWrite value) First h = absurd (cc)
-in_first (ToWrite value) Second h = absurd (cc)
-in_first (ToWrite value) Looking h = absurd (cc)
-in_first (ToWrite value) Ended h = absurd (cc)
+in_first work stage h = absurd (cc)
 
 pub first_not_second : (stage : Stage) (P : Type 0) → stage ≡ First → stage ≡ Second → P
 first_not_second First P a b = absurd (cc)
-first_not_second Second P a b = absurd (cc)
-first_not_second Looking P a b = absurd (cc)
-first_not_second Ended P a b = absurd (cc)
+first_not_second stage P a b = absurd (cc)
 
 pub counted_have : (s : Store) (work : Work) (stage : Stage) (call : CallState) (replica : DcId) (version mark : Stamp) (value : List ℕ) → takes_have work stage ≡ true → has call.progress.phase.asked replica.0 ≡ true → WasSent s (m.Have call.progress.phase.tag replica version mark value) → StrongCounted s work stage call
     → StrongCounted s work stage (recounted call (better call.best version value) (insert call.progress.phase.good replica.0) call.progress.phase.bad (greater call.progress.top_mark mark) call.progress.had_gone call.progress.top_gone call.progress.top_held)
 counted_have s ToRead First call replica version mark value h asked sent old = have_more s call replica version mark value call.best asked sent old
-counted_have s ToRead Second call replica version mark value h asked sent old = absurd (cc)
-counted_have s ToRead Looking call replica version mark value h asked sent old = absurd (cc)
-counted_have s ToRead Ended call replica version mark value h asked sent old = absurd (cc)
-counted_have s (ToWrite v) First call replica version mark value h asked sent old = absurd (cc)
-counted_have s (ToWrite v) Second call replica version mark value h asked sent old = absurd (cc)
-counted_have s (ToWrite v) Looking call replica version mark value h asked sent old = absurd (cc)
-counted_have s (ToWrite v) Ended call replica version mark value h asked sent old = absurd (cc)
+counted_have s work stage call replica version mark value h asked sent old = absurd (cc)
+
+-- ---- an answer that counts keeps what a read or a write rests on
+
+-- a message that was sent and counts
+pub counting : (key : KeyId) (s : Store) (g : Ghost) (call : CallState) (message : Message) → is_counted call message ≡ true → WasSent s message → CallBacked key s g call → CallBacked key s g (counted call message)
+counting key s g call (m.Have tag replica version mark value) is sent b =
+    let c = counts_is call.progress.phase tag replica (and_right (takes_have call.work call.progress.stage) (counts call.progress.phase tag replica) is) in
+    let t = and_left (takes_have call.work call.progress.stage) (counts call.progress.phase tag replica) is in
+    recount key s g call (better call.best version value) (insert call.progress.phase.good replica.0) call.progress.phase.bad (greater call.progress.top_mark mark) call.progress.had_gone call.progress.top_gone call.progress.top_held b
+    (λ second. first_not_second call.progress.stage (call.best ≡ better call.best version value) (in_first call.work call.progress.stage t).1 second)
+    (counted_have s call.work call.progress.stage call replica version mark value t c.asked (subst (λ x. WasSent s (m.Have x replica version mark value)) (sym c.own) sent) b.counted)
+    (within_more call.progress.phase replica c.asked b.within)
+counting key s g call (m.Yes tag replica) is sent b =
+    let c = counts_is call.progress.phase tag replica (and_right (takes_yes call.work call.progress.stage) (counts call.progress.phase tag replica) is) in
+    recount key s g call call.best (insert call.progress.phase.good replica.0) call.progress.phase.bad call.progress.top_mark call.progress.had_gone call.progress.top_gone call.progress.top_held b (λ _. refl)
+    (counted_yes s call.work call.progress.stage call replica (and_left (takes_yes call.work call.progress.stage) (counts call.progress.phase tag replica) is) (subst (λ x. WasSent s (m.Yes x replica)) (sym c.own) sent) b.counted)
+    (within_more call.progress.phase replica c.asked b.within)
+counting key s g call (m.Held tag replica stamp) is sent b =
+    recount key s g call call.best call.progress.phase.good (insert call.progress.phase.bad replica.0) call.progress.top_mark call.progress.had_gone call.progress.top_gone (held_after call.progress.stage call.progress.top_held stamp) b (λ _. refl)
+    (counted_refused s call.work call.progress.stage call (insert call.progress.phase.bad replica.0) call.progress.had_gone call.progress.top_gone (held_after call.progress.stage call.progress.top_held stamp) b.counted) b.within
+counting key s g call (m.Gone tag replica epoch) is sent b =
+    recount key s g call call.best call.progress.phase.good (insert call.progress.phase.bad replica.0) call.progress.top_mark true (max call.progress.top_gone epoch) call.progress.top_held b (λ _. refl)
+    (counted_refused s call.work call.progress.stage call (insert call.progress.phase.bad replica.0) true (max call.progress.top_gone epoch) call.progress.top_held b.counted) b.within
+counting key s g call (m.Here tag at epoch policy latest_epoch latest_policy) is sent b = b
+counting key s g call message is sent b = absurd (cc)
+
+-- what counts is an answer
+counted_no_request : (call : CallState) (message : Message) → is_counted call message ≡ true → request_key message ≡ None
+counted_no_request call (m.Have tag replica version mark value) is = refl
+counted_no_request call (m.Yes tag replica) is = refl
+counted_no_request call (m.Held tag replica stamp) is = refl
+counted_no_request call (m.Gone tag replica epoch) is = refl
+counted_no_request call (m.Here tag at epoch policy latest_epoch latest_policy) is = refl
+counted_no_request call message is = absurd (cc)
+
+-- the request that a phase's answer was given to
+pub record PhaseRequest (s : Store) (call : CallState) : Type 0 where
+  pub request : Message
+  pub sent : WasSent s request
+  pub some : IsSome (request_key request)
+  pub tag_is : tag_of request ≡ call.progress.phase.tag
+  pub is : IsStrongRequest call.work call.progress.stage call request
+
+-- an answer that counts was given to the request of the call's present phase
+pub phase_request : (key : KeyId) (s : Store) (g : Ghost) (call : CallState) (message : Message) → TagsTellApart s → is_counted call message ≡ true → WasSent s message → CallBacked key s g call → PhaseRequest s call
+phase_request key s g call message tags is sent b =
+    let asked = tags.answers_asked message sent (counted_no_request call message is) in
+    let own : tag_of asked.0 ≡ call.progress.phase.tag = asked.3 ∙ sym (counted_is_own call message is) in
+    record { request = asked.0; sent = asked.1; some = asked.2; tag_is = own; is = b.request asked.0 asked.1 asked.2 (point_of (tag_of asked.0) call.progress.phase.tag own) }

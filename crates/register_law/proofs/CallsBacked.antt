@@ -1,107 +1,21 @@
 -- What one read or write of the key rests on, and that an event in which it has no part keeps it.
-use Rattle.std.proofs.Common.{◌≡◌, ◌⊎◌, inl, inr, ℕ, ◌≤◌, true, List, ◌++◌, refl, sym, subst}
-use Rattle.std.specs.Prelude.{Option, Some, None, IsSome, Contains}
-use Rattle.std.proofs.lemmas.List.Elements.{Contains-append_left, Contains-append_cases}
-use Rattle.span_base.specs.declared.ids.KeyId.{KeyId}
-use Rattle.span_base.specs.DcSet.{has}
-use Rattle.span_base.specs.declared.policy.Policy.{Policy}
-use Rattle.span_base.specs.PolicyParts.{member_of}
-use Rattle.ticket_rules.specs.declared.stamp.Stamp.{Stamp}
-use Rattle.ticket_rules.specs.Stamp.{IsAtMost}
-use Rattle.wire_msg.specs.declared.tag.Tag.{Tag}
-use Rattle.wire_msg.specs.declared.message.Message.{Message}
-use Rattle.wire_msg.specs.Posts.{tag_of}
+use Rattle.std.proofs.Common.{◌≡◌, ◌⊎◌, inl, inr, ℕ, ◌≤◌, List, ◌++◌, refl, sym, subst, Option, Some, None, IsSome, Contains}
+use Rattle.register_law.proofs.Words.{member_of, KeyId, Policy, IsAtMost, Stamp, tag_of, Message, Tag, Found, Phase, leg_under, Stage, Ended, First, Looking, Second, CallState, ToRead, ToWrite, latest, Mark, Store, policy_of, Happening, Happened, Begun, Ghost, noted_of, FirstCounted, HasPolicy, HasTicket, HavesCounted, IsNotedLeg, IsStrongRequest, MayRepair, StoresOnly, StrongCounted, YesCounted, Grows, WasSent, IsSamePoint, request_key, IsPushFree, CallBacked, Contains-append_left, Contains-append_cases, StrongWork as Work}
 use Rattle.wire_msg.specs.declared.message.Message.TheVariants as m
-use Rattle.call_phase.specs.declared.best.Found.{Found}
-use Rattle.call_phase.specs.declared.phase.Phase.{Phase}
-use Rattle.slot_pool.specs.declared.handles.Handle.{Handle}
-use Rattle.strong_proxy.specs.declared.progress.Stage.{Stage}
-use Rattle.strong_proxy.specs.declared.progress.Stage.TheVariants.{First, Second, Looking, Ended}
-use Rattle.strong_proxy.specs.declared.state.Work.{Work}
-use Rattle.strong_proxy.specs.declared.state.Work.TheVariants.{ToRead, ToWrite}
-use Rattle.strong_proxy.specs.declared.state.CallState.{CallState}
-use Rattle.strong_proxy.specs.Rule.{leg_under}
-use Rattle.epoch_directory.specs.State.{latest}
-use Rattle.run_marks.specs.declared.mark.Mark.{Mark}
 use Rattle.run_marks.specs.declared.mark.Mark.TheVariants as k
-use Rattle.world_core.specs.State.{Store, policy_of}
-use Rattle.world_core.specs.Step.{Happening}
-use Rattle.register_law.specs.Ghost.{Ghost, Begun, noted_of}
-use Rattle.register_law.specs.Seen.{WasSent, Grows}
-use Rattle.register_law.specs.Tags.{IsSamePoint, request_key}
-use Rattle.register_law.specs.Live.{IsLiveStrong, IsStrongRequest, HavesCounted, YesCounted, FirstCounted, StrongCounted, HasPolicy, IsNotedLeg, IsWork, MayRepair, StoresOnly, HasTicket, StrongCallsAreBacked}
-use Rattle.register_law.specs.Cases.{Happened}
-use Rattle.register_law.proofs.Stable.{sent_stays, known_stays}
-use Rattle.register_law.proofs.CallsEach.{WasPosted, sent_cases}
-use Rattle.register_law.proofs.CallsReplies.{IsPush}
-use Rattle.register_law.proofs.CallsApart.{NotOwn, foreign, no_request, passed_on, Apart}
+use Rattle.register_law.proofs.MovesStable.{sent_stays, known_stays}
+use Rattle.register_law.proofs.Basics.{WasPosted, sent_cases}
+use Rattle.register_law.proofs.CallsLive.{NotOwn, foreign, no_request, passed_on, Apart}
 
-pub record CallBacked (key : KeyId) (s : Store) (g : Ghost) (call : CallState) : Type 0 where
-  pub request : (request : Message) → WasSent s request → IsSome (request_key request) → IsSamePoint (tag_of request) call.progress.phase.tag → IsStrongRequest call.work call.progress.stage call request
-  pub counted : StrongCounted s call.work call.progress.stage call
-  pub within : (d : ℕ) → has call.progress.phase.good d ≡ true → has call.progress.phase.asked d ≡ true
-  pub policy : HasPolicy key s g call
-  pub leg : call.progress.stage ≡ First → IsNotedLeg g call
-  pub begun : (b : Begun) → g.begun call.progress.phase.tag.call ≡ Some b → IsWork call.work b.work
-  pub repair : (b : Begun) → g.begun call.progress.phase.tag.call ≡ Some b → MayRepair key s call.work call.progress.stage call.best b.floor
-  pub store : (tag : Tag) (stamp : Stamp) (value : List ℕ) → WasSent s (m.Store tag key stamp value) → tag.call ≡ call.progress.phase.tag.call → StoresOnly call.work call.progress.stage call.progress.leg.ticket stamp
-  pub epochs : (tag : Tag) (stamp : Stamp) → WasSent s (m.Ask tag key stamp) → tag.call ≡ call.progress.phase.tag.call → stamp.epoch ≤ call.progress.leg.epoch
-  pub ticket : HasTicket call.work g.marks call.progress.phase.tag call.progress.leg.ticket
-
-pub backed_of : (key : KeyId) (s : Store) (g : Ghost) (p : ℕ) (handle : Handle) (call : CallState) → StrongCallsAreBacked key s g → IsLiveStrong key s p handle call → CallBacked key s g call
-backed_of key s g p handle call all live = record {
-  request = λ request. all.request p handle call request live;
-  counted = all.counted p handle call live;
-  within = λ d. all.within p handle call d live;
-  policy = all.policy p handle call live;
-  leg = all.leg p handle call live;
-  begun = λ b. all.begun p handle call b live;
-  repair = λ b. all.repair p handle call b live;
-  store = λ tag stamp value. all.store p handle call tag stamp value live;
-  epochs = λ tag stamp. all.epochs p handle call tag stamp live;
-  ticket = all.ticket p handle call live;
-}
-
-pub all_backed : (key : KeyId) (s : Store) (g : Ghost) → ((p : ℕ) (handle : Handle) (call : CallState) → IsLiveStrong key s p handle call → CallBacked key s g call) → StrongCallsAreBacked key s g
-all_backed key s g each = record {
-  request = λ p handle call request live. (each p handle call live).request request;
-  counted = λ p handle call live. (each p handle call live).counted;
-  within = λ p handle call d live. (each p handle call live).within d;
-  policy = λ p handle call live. (each p handle call live).policy;
-  leg = λ p handle call live. (each p handle call live).leg;
-  begun = λ p handle call b live. (each p handle call live).begun b;
-  repair = λ p handle call b live. (each p handle call live).repair b;
-  store = λ p handle call tag stamp value live. (each p handle call live).store tag stamp value;
-  epochs = λ p handle call tag stamp live. (each p handle call live).epochs tag stamp;
-  ticket = λ p handle call live. (each p handle call live).ticket;
-}
-
-push_is_request : (message : Message) → IsPush message → IsSome (request_key message)
+push_is_request : (message : Message) → (IsPushFree message → ⊥) → IsSome (request_key message)
 push_is_request (m.Push tag key stamp onward value) h = refl
-push_is_request (m.Read tag key epoch) h = absurd h
-push_is_request (m.Ask tag key stamp) h = absurd h
-push_is_request (m.Store tag key stamp value) h = absurd h
-push_is_request (m.Repair tag key epoch stamp value) h = absurd h
-push_is_request (m.Confirm tag key stamp) h = absurd h
-push_is_request (m.Freeze tag key epoch) h = absurd h
-push_is_request (m.Seed tag key epoch stamp value) h = absurd h
-push_is_request (m.Lookup tag key) h = absurd h
-push_is_request (m.Switch tag key closing opening) h = absurd h
-push_is_request (m.Have tag replica version mark value) h = absurd h
-push_is_request (m.Yes tag replica) h = absurd h
-push_is_request (m.Held tag replica stamp) h = absurd h
-push_is_request (m.Gone tag replica epoch) h = absurd h
-push_is_request (m.Here tag key epoch policy latest_epoch latest_policy) h = absurd h
-push_is_request (m.Switched tag key done epoch) h = absurd h
+push_is_request message h = absurd (h tt)
 
 -- a read or a write passes nothing on
-never_pushes : (work : Work) (stage : Stage) (call : CallState) (message : Message) → IsPush message → IsStrongRequest work stage call message → ⊥
-never_pushes ToRead First call message h is = subst IsPush is h
-never_pushes (ToWrite value) First call message h is = subst IsPush is h
-never_pushes ToRead Second call message h is = subst IsPush is.2 h
-never_pushes (ToWrite value) Second call message h is = subst IsPush is h
-never_pushes work Looking call message h is = subst IsPush is h
-never_pushes work Ended call message h is = is
+never_pushes : (work : Work) (stage : Stage) (call : CallState) (message : Message) → IsStrongRequest work stage call message → IsPushFree message
+never_pushes ToRead Second call message is = subst IsPushFree (sym is.2) tt
+never_pushes work Ended call message is = absurd is
+never_pushes work stage call message is = subst IsPushFree (sym is) tt
 
 pub is_some_not_none : {X : Type 0} → (o : Option X) (P : Type 0) → IsSome o → o ≡ None → P
 is_some_not_none {X} None P h e = absurd (cc)
@@ -130,11 +44,7 @@ counted_stays s z work Ended call up h = tt
 
 pub repair_stays : (key : KeyId) (s : Store) (g : Ghost) (z : Store) (n : Ghost) (work : Work) (stage : Stage) (best : Option Found) (floor : Stamp) → Grows key s g z n → MayRepair key s work stage best floor → MayRepair key z work stage best floor
 repair_stays key s g z n ToRead Second (Some found) floor grows h = (known_stays key s g z n found.stamp found.value grows h.0, h.1)
-repair_stays key s g z n ToRead Second None floor grows h = tt
-repair_stays key s g z n ToRead First best floor grows h = tt
-repair_stays key s g z n ToRead Looking best floor grows h = tt
-repair_stays key s g z n ToRead Ended best floor grows h = tt
-repair_stays key s g z n (ToWrite value) stage best floor grows h = tt
+repair_stays key s g z n work stage best floor grows h = tt
 
 pub ticket_stays : (work : Work) (marks more : List Mark) (tag : Tag) (stamp : Stamp) → ((other : Stamp) → Contains more (k.Ticket tag.call other) → ⊥) → HasTicket work marks tag stamp → HasTicket work (marks ++ more) tag stamp
 ticket_stays ToRead marks more tag stamp none h = tt
@@ -187,22 +97,22 @@ stays key s g h call is grows published some apart b = record {
     not_own request any point (foreign f) = f point.call
     not_own request any point (no_request none) = is_some_not_none (request_key request) ⊥ any none
     not_own request any point (passed_on push sent pushes same passed) =
-        never_pushes call.work call.progress.stage call push pushes
-        (b.request push sent (push_is_request push pushes) (subst (λ (t : Tag). IsSamePoint t call.progress.phase.tag) same point))
+        pushes (never_pushes call.work call.progress.stage call push
+        (b.request push sent (push_is_request push pushes) (subst (λ (t : Tag). IsSamePoint t call.progress.phase.tag) same point)))
 
     request_of : (request : Message) → IsSome (request_key request) → IsSamePoint (tag_of request) call.progress.phase.tag → WasSent s request ⊎ WasPosted h request → IsStrongRequest call.work call.progress.stage call request
     request_of request any point (inl old) = b.request request old any point
     request_of request any point (inr new) = absurd (not_own request any point (apart.posts (record { to = new.0; message = request }) new.1))
 
-    not_its : (request : Message) → (IsPush request → ⊥) → IsSome (request_key request) → (tag_of request).call ≡ call.progress.phase.tag.call → NotOwn s call.progress.phase.tag request → ⊥
-    not_its request no_push any own (foreign f) = f own
-    not_its request no_push any own (no_request none) = is_some_not_none (request_key request) ⊥ any none
-    not_its request no_push any own (passed_on push sent pushes same passed) = no_push passed
+    not_its : (request : Message) → IsPushFree request → IsSome (request_key request) → (tag_of request).call ≡ call.progress.phase.tag.call → NotOwn s call.progress.phase.tag request → ⊥
+    not_its request free any own (foreign f) = f own
+    not_its request free any own (no_request none) = is_some_not_none (request_key request) ⊥ any none
+    not_its request free any own (passed_on push sent pushes same passed) = passed free
 
     store_of : (tag : Tag) (stamp : Stamp) (value : List ℕ) → tag.call ≡ call.progress.phase.tag.call → WasSent s (m.Store tag key stamp value) ⊎ WasPosted h (m.Store tag key stamp value) → StoresOnly call.work call.progress.stage call.progress.leg.ticket stamp
     store_of tag stamp value own (inl old) = b.store tag stamp value old own
-    store_of tag stamp value own (inr new) = absurd (not_its (m.Store tag key stamp value) (λ x. x) refl own (apart.posts (record { to = new.0; message = m.Store tag key stamp value }) new.1))
+    store_of tag stamp value own (inr new) = absurd (not_its (m.Store tag key stamp value) tt refl own (apart.posts (record { to = new.0; message = m.Store tag key stamp value }) new.1))
 
     ask_of : (tag : Tag) (stamp : Stamp) → tag.call ≡ call.progress.phase.tag.call → WasSent s (m.Ask tag key stamp) ⊎ WasPosted h (m.Ask tag key stamp) → stamp.epoch ≤ call.progress.leg.epoch
     ask_of tag stamp own (inl old) = b.epochs tag stamp old own
-    ask_of tag stamp own (inr new) = absurd (not_its (m.Ask tag key stamp) (λ x. x) refl own (apart.posts (record { to = new.0; message = m.Ask tag key stamp }) new.1))
+    ask_of tag stamp own (inr new) = absurd (not_its (m.Ask tag key stamp) tt refl own (apart.posts (record { to = new.0; message = m.Ask tag key stamp }) new.1))

@@ -1,33 +1,10 @@
 -- The first phase of a leg: its requests, and that it is noted.
-use Rattle.std.proofs.Common.{◌≡◌, ℕ, ◌≤◌, Bool, true, false, List, [], ◌∷◌, refl, sym, ap, ◌∙◌, subst, arith}
-use Rattle.std.specs.Prelude.{length, map, ◌==◌, if◌then◌else◌, Some, None, Contains}
-use Rattle.std.proofs.lemmas.Grind.{common_steps}
-use Rattle.span_base.specs.declared.ids.KeyId.{KeyId}
-use Rattle.span_base.specs.DcSet.{has, centres_of}
-use Rattle.span_base.specs.declared.policy.Policy.{Policy}
-use Rattle.span_base.specs.declared.policy.Quorum.{Quorum}
-use Rattle.span_base.specs.Policy.{IsQuorumPolicy}
-use Rattle.span_base.specs.PolicyParts.{member_of, members_of}
-use Rattle.ticket_rules.specs.declared.stamp.Stamp.{Stamp}
-use Rattle.ticket_rules.specs.Stamp.{stamp_zero}
-use Rattle.wire_msg.specs.declared.message.Message.{Message}
-use Rattle.wire_msg.specs.declared.outputs.Post.{Post}
-use Rattle.wire_msg.specs.declared.outputs.View.{View}
+use Rattle.std.proofs.Common.{◌≡◌, ℕ, ◌≤◌, Bool, true, false, List, [], ◌∷◌, refl, sym, ap, ◌∙◌, subst, arith, length, map, ◌==◌, if◌then◌else◌, Some, None, Contains}
+use Rattle.register_law.proofs.Words.{centres_of, has, IsQuorumPolicy, member_of, members_of, KeyId, Policy, Quorum, stamp_zero, Stamp, Message, Post, View, post_to, first_posts, first_set, leg_under, First, CallState, ToRead, ToWrite, Store, kept_of, policy_of, Happening, Ghost, leg_of, legs_after, noted_of, FirstCounted, HasPolicy, IsAskedOf, IsNotedLeg, IsStrongRequest, StrongCounted, TicketOf, ticket_noted, StrongWork as Work, NotedLeg as Leg}
 use Rattle.wire_msg.specs.declared.message.Message.TheVariants as m
-use Rattle.call_phase.specs.Requests.{post_to}
-use Rattle.strong_proxy.specs.declared.progress.Stage.TheVariants.{First}
 use Rattle.strong_proxy.specs.declared.progress.Leg.{Leg as CallLeg}
-use Rattle.strong_proxy.specs.declared.state.Work.{Work}
-use Rattle.strong_proxy.specs.declared.state.Work.TheVariants.{ToRead, ToWrite}
-use Rattle.strong_proxy.specs.declared.state.CallState.{CallState}
-use Rattle.strong_proxy.specs.Rule.{leg_under, first_set, first_posts}
-use Rattle.world_core.specs.State.{Store, kept_of, policy_of}
-use Rattle.world_core.specs.Step.{Happening}
-use Rattle.register_law.specs.Ghost.{Ghost, Leg, noted_of, leg_of, legs_after}
-use Rattle.register_law.specs.Live.{IsStrongRequest, FirstCounted, StrongCounted, IsAskedOf, TicketOf, HasPolicy, ticket_noted, IsNotedLeg}
-use Rattle.register_law.proofs.CallsEach.{Each, each_to}
-use Rattle.register_law.proofs.CallsMembers.{reads_some, writes_some}
-use Rattle.register_law.proofs.Basics.{same_number}
+use Rattle.register_law.proofs.Basics.{Each, each_to, same_number}
+use Rattle.register_law.proofs.Quorums.{reads_some, writes_some}
 
 -- what a leg sends first is its request
 pub first_asks : (work : Work) (call : CallState) → Each (IsStrongRequest work First call) (first_posts work call.progress.key call.progress.phase.tag call.progress.leg)

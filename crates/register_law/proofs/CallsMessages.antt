@@ -1,48 +1,19 @@
 -- Every event keeps what Repairs, Stores and Asks of the key rest on.
-use Rattle.std.proofs.Common.{◌≡◌, ◌⊎◌, inl, inr, ℕ, List, refl, sym, ap, ◌∙◌, subst, arith}
-use Rattle.std.specs.Prelude.{Option, Some, None, IsSome, Contains}
-use Rattle.std.proofs.lemmas.List.Elements.{Contains-append_left}
-use Rattle.span_base.specs.declared.ids.KeyId.{KeyId}
-use Rattle.ticket_rules.specs.declared.stamp.Stamp.{Stamp}
-use Rattle.ticket_rules.specs.Stamp.{IsAbove}
-use Rattle.wire_msg.specs.declared.tag.Tag.{Tag}
-use Rattle.wire_msg.specs.declared.message.Message.{Message}
-use Rattle.wire_msg.specs.declared.outputs.View.{View}
+use Rattle.std.proofs.Common.{◌≡◌, ◌⊎◌, inl, inr, ℕ, List, refl, sym, ap, ◌∙◌, subst, arith, Some, IsSome, Contains}
+use Rattle.register_law.proofs.Words.{KeyId, IsAbove, Stamp, Message, View, Tag, counted, best_stamp, next_ticket, tag_after, Next, Enter, Repair, Leg, Progress, CallState, ToRead, ToWrite, Mark, first_tag, ticket_of, proxy_at, Happening, Happened, next_call, Begun, Ghost, noted_of, Inv, HasTicket, IsWork, TicketOf, Grows, IsKnown, WasSent, IsTicketOf, StoreBacked, CallBacked, Contains-append_left, StrongWork as Work, StoreNext as Store, Store as World}
 use Rattle.wire_msg.specs.declared.message.Message.TheVariants as m
-use Rattle.strong_proxy.specs.declared.progress.Progress.{Progress}
-use Rattle.strong_proxy.specs.declared.progress.Leg.{Leg}
-use Rattle.strong_proxy.specs.declared.state.Work.{Work}
-use Rattle.strong_proxy.specs.declared.state.Work.TheVariants.{ToRead, ToWrite}
-use Rattle.strong_proxy.specs.declared.state.CallState.{CallState}
-use Rattle.strong_proxy.specs.declared.next.Next.{Next}
-use Rattle.strong_proxy.specs.declared.next.Next.TheVariants.{Repair, Store, Enter}
-use Rattle.strong_proxy.specs.Counting.{counted}
-use Rattle.strong_proxy.specs.Rule.{tag_after, best_stamp, next_ticket}
 use Rattle.strong_proxy.proofs.Endings.{progress_after-key}
-use Rattle.run_marks.specs.declared.mark.Mark.{Mark}
 use Rattle.run_marks.specs.declared.mark.Work.TheVariants as w
 use Rattle.run_marks.specs.declared.mark.Mark.TheVariants as k
-use Rattle.world_core.specs.State.{Store as World, proxy_at}
-use Rattle.world_core.specs.Starting.{first_tag, ticket_of}
-use Rattle.world_core.specs.Step.{Happening}
-use Rattle.register_law.specs.Ghost.{Ghost, Begun, noted_of}
-use Rattle.register_law.specs.Seen.{WasSent, IsKnown, Grows}
-use Rattle.register_law.specs.Sent.{IsTicketOf, StoreBacked}
-use Rattle.register_law.specs.Live.{IsWork, TicketOf, HasTicket}
-use Rattle.register_law.specs.Invariant.{Inv}
-use Rattle.register_law.specs.Cases.{Happened, next_call}
-use Rattle.register_law.proofs.CallsEach.{WasPosted, sent_cases}
-use Rattle.register_law.proofs.Stable.{known_stays}
+use Rattle.register_law.proofs.Basics.{WasPosted, sent_cases, some_begun}
+use Rattle.register_law.proofs.MovesStable.{known_stays}
 use Rattle.register_law.proofs.Next.{RestsOn, rests_on, EntersWith}
-use Rattle.register_law.proofs.CallsBacked.{CallBacked}
 use Rattle.register_law.proofs.CallsGoes.{first_stores}
-use Rattle.register_law.proofs.CallsKept.{AskFloor, found_known}
-use Rattle.register_law.proofs.CallsStrong.{took_counted, growth}
-use Rattle.register_law.proofs.CallsSent.{next_by, Demanded, plain, at_start, by_call, demanded}
-use Rattle.register_law.proofs.CallsSends.{call_sends, sends_repair, SendsStore, sends_store, sends_ask}
-use Rattle.register_law.proofs.CallsApart.{view_by, seen_by}
-use Rattle.register_law.proofs.CallsBegun.{start_view}
-use Rattle.register_law.proofs.Basics.{some_begun}
+use Rattle.register_law.proofs.CallsStrong.{AskFloor, found_known, took_counted}
+use Rattle.register_law.proofs.Growth.{grows_by}
+use Rattle.register_law.proofs.CallsSent.{next_by, Demanded, plain, at_start, by_call, demanded, call_sends, sends_repair, SendsStore, sends_store, sends_ask}
+use Rattle.register_law.proofs.CallsLive.{view_by, seen_by}
+use Rattle.register_law.proofs.CallsStart.{start_view}
 
 -- what a call does next at a message rests on this
 pub rests_by : (s : World) (p : ℕ) (message : Message) (was : CallState) (next : Next) → next_by s p message was ≡ next
@@ -64,8 +35,8 @@ repairs_known key s g h is inv tag epoch stamp value sent = by (sent_cases s h (
         subst (λ (x : Stamp). IsKnown key s x value) sends.stamp_is (subst (λ (x : List ℕ). IsKnown key s sends.found.stamp x) sends.value_is known)
 
     by : WasSent s (m.Repair tag key epoch stamp value) ⊎ WasPosted h (m.Repair tag key epoch stamp value) → IsKnown key h.store stamp value
-    by (inl old) = known_stays key s g h.store (noted_of key s h g) stamp value (growth key s g h is inv) (inv.messages.repair_known tag epoch stamp value old)
-    by (inr c) = known_stays key s g h.store (noted_of key s h g) stamp value (growth key s g h is inv) (new c (demanded s h is (record { to = c.0; message = m.Repair tag key epoch stamp value }) c.1))
+    by (inl old) = known_stays key s g h.store (noted_of key s h g) stamp value (grows_by key s g h is inv) (inv.messages.repair_known tag epoch stamp value old)
+    by (inr c) = known_stays key s g h.store (noted_of key s h g) stamp value (grows_by key s g h is inv) (new c (demanded s h is (record { to = c.0; message = m.Repair tag key epoch stamp value }) c.1))
 
 store_stays : (key : KeyId) (s : World) (g : Ghost) (h : Happening) (tag : Tag) (stamp : Stamp) (value : List ℕ) → Grows key s g h.store (noted_of key s h g) → StoreBacked g tag stamp value → StoreBacked (noted_of key s h g) tag stamp value
 store_stays key s g h tag stamp value grows b = record {
@@ -121,7 +92,7 @@ stores_backed key s g h is inv floor tag stamp value sent = by (sent_cases s h (
         subst (λ (x : Tag). StoreBacked (noted_of key s h g) x stamp value) sends.tag_is (subst (λ (x : Stamp). StoreBacked (noted_of key s h g) (tag_after (counted was message).progress) x value) sends.stamp_is made)
 
     by : WasSent s (m.Store tag key stamp value) ⊎ WasPosted h (m.Store tag key stamp value) → StoreBacked (noted_of key s h g) tag stamp value
-    by (inl old) = store_stays key s g h tag stamp value (growth key s g h is inv) (inv.messages.store_sent tag stamp value old)
+    by (inl old) = store_stays key s g h tag stamp value (grows_by key s g h is inv) (inv.messages.store_sent tag stamp value old)
     by (inr c) = new c (demanded s h is (record { to = c.0; message = m.Store tag key stamp value }) c.1)
 
 -- a Store that an event sends is its call's first one, and all that it sends have one stamp

@@ -1,34 +1,65 @@
--- A read or a write that goes on with a new phase rests on what it sent for it.
-use Rattle.std.proofs.Common.{◌≡◌, ◌⊎◌, inl, inr, ℕ, ◌≤◌, Bool, true, List, ap, ◌∙◌, arith}
-use Rattle.std.specs.Prelude.{Option, Some, IsSome, Contains}
-use Rattle.span_base.specs.declared.ids.KeyId.{KeyId}
-use Rattle.span_base.specs.declared.dc_set.DcSet.{DcSet}
-use Rattle.span_base.specs.DcSet.{has, no_centre}
-use Rattle.span_base.proofs.Sets.{has-no_centre}
-use Rattle.ticket_rules.specs.declared.stamp.Stamp.{Stamp}
-use Rattle.wire_msg.specs.declared.tag.Tag.{Tag}
-use Rattle.wire_msg.specs.declared.message.Message.{Message}
-use Rattle.wire_msg.specs.Posts.{tag_of}
+-- A read or a write rests on what it sent for a new phase, and on what it counted of it.
+use Rattle.std.proofs.Common.{◌≡◌, ℕ, ◌≤◌, Bool, true, refl, sym, ap, ◌∙◌, subst, Option, ◌⊎◌, inl, inr, List, arith, Some, IsSome, Contains}
+use Rattle.register_law.proofs.Words.{has, DcSet, Call, KeyId, Stamp, Message, Found, Progress, Stage, Ended, Second, CallState, ToRead, ToWrite, Store, Ghost, IsStrongRequest, MayRepair, StrongCounted, TicketOf, CallBacked, StrongWork as Work, no_centre, tag_of, Tag, opened, tag_after, Leg, First, latest, Happening, Happened, Begun, noted_of, HasPolicy, HasTicket, IsNotedLeg, StoresOnly, Grows, WasSent, IsSamePoint, has-no_centre}
 use Rattle.wire_msg.specs.declared.message.Message.TheVariants as m
-use Rattle.call_phase.specs.declared.best.Found.{Found}
-use Rattle.call_phase.specs.Counting.{opened}
-use Rattle.strong_proxy.specs.declared.progress.Stage.{Stage}
-use Rattle.strong_proxy.specs.declared.progress.Stage.TheVariants.{First, Second, Looking, Ended}
-use Rattle.strong_proxy.specs.declared.progress.Leg.{Leg}
-use Rattle.strong_proxy.specs.declared.state.Work.{Work}
-use Rattle.strong_proxy.specs.declared.state.Work.TheVariants.{ToRead, ToWrite}
-use Rattle.strong_proxy.specs.declared.state.CallState.{CallState}
-use Rattle.strong_proxy.specs.Rule.{tag_after}
-use Rattle.epoch_directory.specs.State.{latest}
-use Rattle.world_core.specs.State.{Store}
-use Rattle.world_core.specs.Step.{Happening}
-use Rattle.register_law.specs.Ghost.{Ghost, Begun, noted_of}
-use Rattle.register_law.specs.Seen.{WasSent, Grows}
-use Rattle.register_law.specs.Tags.{IsSamePoint}
-use Rattle.register_law.specs.Live.{IsStrongRequest, StrongCounted, TicketOf, HasPolicy, IsNotedLeg, MayRepair, StoresOnly, HasTicket}
-use Rattle.register_law.specs.Cases.{Happened}
-use Rattle.register_law.proofs.CallsEach.{WasPosted, sent_cases, Each}
-use Rattle.register_law.proofs.CallsBacked.{CallBacked, begun_before}
+use Rattle.register_law.proofs.Basics.{WasPosted, sent_cases, Each}
+use Rattle.register_law.proofs.CallsBacked.{begun_before}
+
+-- the call with other answers counted
+abbrev pub recounted : CallState → Option Found → DcSet → DcSet → Stamp → Bool → ℕ → Stamp → CallState
+recounted call best good bad mark had gone held = record {
+  work = call.work;
+  best = best;
+  progress = record call.progress {
+    phase = record { tag = call.progress.phase.tag; asked = call.progress.phase.asked; good = good; bad = bad };
+    top_mark = mark;
+    had_gone = had;
+    top_gone = gone;
+    top_held = held;
+  };
+}
+
+-- the request of the phase is the same, where a read that repairs keeps what it found
+same_request : (work : Work) (stage : Stage) (a b : CallState) (request : Message) → a.progress.phase.tag ≡ b.progress.phase.tag → a.progress.key ≡ b.progress.key → a.progress.leg ≡ b.progress.leg → (stage ≡ Second → a.best ≡ b.best)
+    → IsStrongRequest work stage a request → IsStrongRequest work stage b request
+same_request ToRead Second a b request t k l same h = (h.0, sym (same refl) ∙ h.1, h.2 ∙ cc)
+same_request work Ended a b request t k l same h = h
+same_request work stage a b request t k l same h = h ∙ cc
+
+pub same_ticket : (work : Work) (p q : Progress) → p.leg ≡ q.leg → p.phase.tag.call ≡ q.phase.tag.call → TicketOf work p → TicketOf work q
+same_ticket ToRead p q l t h = tt
+same_ticket (ToWrite value) p q l t h =
+    (cc, subst (λ x. 1 ≤ x.ticket.number) l h.1, sym (ap (λ x. x.ticket.proxy) l) ∙ h.2 ∙ ap (λ (x : Call). x.proxy) t, sym (ap (λ x. x.ticket.seq) l) ∙ h.3 ∙ ap (λ (x : Call). x.seq) t)
+
+same_repair : (key : KeyId) (s : Store) (work : Work) (stage : Stage) (a b : Option Found) (floor : Stamp) → (stage ≡ Second → a ≡ b) → MayRepair key s work stage a floor → MayRepair key s work stage b floor
+same_repair key s ToRead Second a b floor same h = subst (λ (x : Option Found). MayRepair key s ToRead Second x floor) (same refl) h
+same_repair key s work stage a b floor same h = tt
+
+pub recount : (key : KeyId) (s : Store) (g : Ghost) (call : CallState) (best : Option Found) (good bad : DcSet) (mark : Stamp) (had : Bool) (gone : ℕ) (held : Stamp) → CallBacked key s g call
+    → (call.progress.stage ≡ Second → call.best ≡ best) → StrongCounted s call.work call.progress.stage (recounted call best good bad mark had gone held)
+    → ((d : ℕ) → has good d ≡ true → has call.progress.phase.asked d ≡ true) → CallBacked key s g (recounted call best good bad mark had gone held)
+recount key s g call best good bad mark had gone held b same now within =
+    record {
+      request = λ request sent any point. same_request call.work call.progress.stage call (recounted call best good bad mark had gone held) request refl refl refl same (b.request request sent any point);
+      counted = now;
+      within = within;
+      policy = record {
+        member = b.policy.member;
+        opened = b.policy.opened;
+        is_member = b.policy.is_member;
+        leg = b.policy.leg;
+        asked = b.policy.asked;
+        ticket = same_ticket call.work call.progress (recounted call best good bad mark had gone held).progress refl refl b.policy.ticket;
+      };
+      leg = λ first. (let l = b.leg first in record { leg = l.leg; noted = l.noted; call_is = l.call_is; phase_is = l.phase_is; epoch_is = l.epoch_is; ticket_is = l.ticket_is });
+      begun = b.begun;
+      repair = λ c e. same_repair key s call.work call.progress.stage call.best best c.floor same (b.repair c e);
+      store = b.store;
+      epochs = b.epochs;
+      ticket = b.ticket;
+    }
+
+-- ---- a read or a write that goes on with a new phase rests on what it sent for it
 
 -- the call with a new phase
 abbrev pub phased : CallState → Option Found → Leg → Stage → DcSet → ℕ → Stamp → Bool → Stamp → CallState
@@ -50,21 +81,17 @@ pub record InEvent (key : KeyId) (s : Store) (g : Ghost) (h : Happening) (now : 
 
 -- a request that is a Store is one of the ticket
 pub request_stores : (work : Work) (stage : Stage) (call : CallState) (tag : Tag) (key : KeyId) (stamp : Stamp) (value : List ℕ) → IsStrongRequest work stage call (m.Store tag key stamp value) → StoresOnly work stage call.progress.leg.ticket stamp
-request_stores ToRead First call tag key stamp value h = absurd (cc)
-request_stores (ToWrite v) First call tag key stamp value h = absurd (cc)
 request_stores ToRead Second call tag key stamp value h = absurd (let e = h.2 in cc)
 request_stores (ToWrite v) Second call tag key stamp value h = cc
-request_stores work Looking call tag key stamp value h = absurd (cc)
 request_stores work Ended call tag key stamp value h = absurd h
+request_stores work stage call tag key stamp value h = absurd (cc)
 
 -- a request that is an Ask is one of the ticket, and of its leg's epoch
 pub request_asks : (work : Work) (stage : Stage) (call : CallState) (tag : Tag) (key : KeyId) (stamp : Stamp) → IsStrongRequest work stage call (m.Ask tag key stamp) → TicketOf work call.progress → stamp.epoch ≤ call.progress.leg.epoch
-request_asks ToRead First call tag key stamp h t = absurd (cc)
 request_asks (ToWrite v) First call tag key stamp h t = (let e : stamp ≡ call.progress.leg.ticket = cc in let f : stamp.epoch ≡ call.progress.leg.epoch = ap (λ (x : Stamp). x.epoch) e ∙ t.0 in omega (arith, f))
 request_asks ToRead Second call tag key stamp h t = absurd (let e = h.2 in cc)
-request_asks (ToWrite v) Second call tag key stamp h t = absurd (cc)
-request_asks work Looking call tag key stamp h t = absurd (cc)
 request_asks work Ended call tag key stamp h t = absurd h
+request_asks work stage call tag key stamp h t = absurd (cc)
 
 pub no_good : (d : ℕ) (P : Type 0) → has no_centre d ≡ true → P
 no_good d P h = absurd (let e = has-no_centre d in cc)

@@ -1,52 +1,59 @@
--- A read or a write that begins rests on what it should.
-use Rattle.std.proofs.Common.{◌≡◌, ◌⊎◌, inl, inr, ℕ, ◌≤◌, Bool, true, false, List, ◌∷◌, ◌++◌, refl, sym, ap, ◌∙◌, subst, arith}
-use Rattle.std.specs.Prelude.{length, ◌==◌, ◌&&◌, if◌then◌else◌, Option, Some, None, Contains}
-use Rattle.std.proofs.lemmas.Grind.{common_steps}
-use Rattle.std.proofs.lemmas.List.Elements.{Contains-append_right, Contains-append_cases}
-use Rattle.span_base.specs.declared.ids.Call.{Call}
-use Rattle.span_base.specs.declared.ids.KeyId.{KeyId}
-use Rattle.span_base.specs.DcSet.{centres_of}
-use Rattle.span_base.specs.declared.policy.Policy.{Policy}
-use Rattle.span_base.specs.declared.policy.Quorum.{Quorum}
-use Rattle.span_base.specs.PolicyParts.{member_of}
-use Rattle.span_base.proofs.Sets.{has-no_centre}
-use Rattle.ticket_rules.specs.declared.stamp.Stamp.{Stamp}
-use Rattle.ticket_rules.specs.Stamp.{IsAtMost}
-use Rattle.wire_msg.specs.declared.tag.Tag.{Tag}
-use Rattle.wire_msg.specs.declared.message.Message.{Message}
-use Rattle.wire_msg.specs.declared.outputs.Post.{Post}
-use Rattle.wire_msg.specs.declared.outputs.View.{View}
-use Rattle.wire_msg.specs.Posts.{tag_of}
-use Rattle.wire_msg.specs.declared.message.Message.TheVariants as m
-use Rattle.strong_proxy.specs.declared.progress.Stage.TheVariants.{First}
-use Rattle.strong_proxy.specs.declared.state.Work.{Work}
-use Rattle.strong_proxy.specs.declared.state.Work.TheVariants.{ToRead, ToWrite}
-use Rattle.strong_proxy.specs.declared.state.CallState.{CallState}
-use Rattle.strong_proxy.specs.Rule.{leg_under, first_set, first_posts, opened_with}
-use Rattle.epoch_directory.specs.State.{latest, current_of}
-use Rattle.run_marks.specs.declared.mark.Work.{Work as Asked}
-use Rattle.run_marks.specs.declared.mark.Mark.{Mark}
+-- What a read or a write rests on once it has begun.
+use Rattle.std.proofs.Common.{◌≡◌, ℕ, Bool, true, List, sym, subst, ◌⊎◌, inl, inr, ◌≤◌, ◌∷◌, ◌++◌, refl, ap, ◌∙◌, arith, Some, length, None, Contains}
+use Rattle.register_law.proofs.Words.{member_of, DcId, KeyId, Quorum, stamp_zero, Stamp, View, Tag, leg_under, opened_with, ToRead, ToWrite, Taken, of_strong, opened_call, Store, proxy_at, view_at, LiveCall, Strong, centres_of, Call, Policy, IsAtMost, tag_of, Message, Post, first_posts, first_set, First, CallState, current_of, latest, Mark, first_tag, policy_of, Happening, Happened, Started, next_call, started, EndsAreBacked, OpeningsAreBacked, Begun, Ghost, is_noted, noted_of, HasTicket, IsStrongRequest, IsWork, StoresOnly, TicketOf, Grows, WasSent, IsSamePoint, TagsTellApart, CallBacked, Contains-append_right, Contains-append_cases, StrongWork as Work, Work as Asked, has-no_centre}
 use Rattle.run_marks.specs.declared.mark.Work.TheVariants as w
+use Rattle.wire_msg.specs.declared.message.Message.TheVariants as m
 use Rattle.run_marks.specs.declared.mark.Mark.TheVariants as k
-use Rattle.world_core.specs.State.{Store, proxy_at, view_at, policy_of}
-use Rattle.world_core.specs.Starting.{first_tag, ticket_marks}
-use Rattle.world_core.specs.Step.{Happening}
-use Rattle.register_law.specs.Ghost.{Ghost, Begun, noted_of, is_noted, begun_after}
-use Rattle.register_law.specs.Seen.{WasSent, Grows}
-use Rattle.register_law.specs.Tags.{IsSamePoint, TagsTellApart}
-use Rattle.register_law.specs.Live.{IsStrongRequest, TicketOf, StoresOnly, HasTicket, IsWork}
-use Rattle.register_law.specs.Cases.{Happened, Started, started, next_call}
-use Rattle.register_law.specs.Ends.{OpeningsAreBacked, EndsAreBacked}
+use Rattle.world_core.specs.Starting.{ticket_marks}
+use Rattle.register_law.proofs.Basics.{Each, WasPosted, sent_cases}
+use Rattle.register_law.proofs.CallsRows as table
+use Rattle.register_law.proofs.CallsRows.{each_start, IsPlain}
 use Rattle.register_law.proofs.Growth.{at_most_itself}
-use Rattle.register_law.proofs.CallsEach.{WasPosted, sent_cases, Each}
-use Rattle.register_law.proofs.CallsApart.{not_next, start_tickets}
-use Rattle.register_law.proofs.CallsBacked.{CallBacked}
-use Rattle.register_law.proofs.CallsMembers.{member_is_in}
+use Rattle.register_law.proofs.CallsLive.{not_next, start_tickets}
+use Rattle.register_law.proofs.Quorums.{member_is_in}
 use Rattle.register_law.proofs.CallsPhase.{request_stores, request_asks, no_good}
 use Rattle.register_law.proofs.CallsLegs.{first_asks, none_first, asked_first, first_set_some, first_noted, under_policy}
-use Rattle.register_law.proofs.CallsEnter.{ViewKnown, first_repairs}
-use Rattle.register_law.proofs.CallsBegun.{start_view, start_ticket}
-use Rattle.register_law.proofs.Basics.{same_number}
+use Rattle.register_law.proofs.OpeningsShown.{IsOpenedView}
+use Rattle.register_law.proofs.CallsGoes.{first_repairs}
+use Rattle.register_law.proofs.MarksAre.{start_ticket}
+use Rattle.register_law.proofs.RequestsKept.{begun_first}
+
+-- what a proxy knows of a key when it begins a call
+abbrev pub start_view : Store → ℕ → KeyId → View
+start_view s p at = view_at (proxy_at s p).views at
+
+-- a read or a write of a strong key opens so
+pub record IsOpened (work : Work) (ticket : Stamp) (tag : Tag) (at : DcId) (view : View) (taken : Taken) : Type 0 where
+  pub member : Quorum
+  pub is_member : member_of view.policy at.0 ≡ Some member
+  pub is : taken ≡ of_strong (opened_with work tag at view.key (leg_under view member ticket))
+
+-- the call isn't a read or a write of a strong key
+abbrev pub IsOther : LiveCall → Type 0
+IsOther (Strong call) = ⊥
+IsOther _ = Unit {0}
+
+pub data Opens (strong : Bool) (tag : Tag) (at : DcId) (view : View) (ticket : Stamp) (asked : Asked) (taken : Taken) : Type 0 where
+  opens_read : strong ≡ true → asked ≡ w.Read → IsOpened ToRead stamp_zero tag at view taken → Opens strong tag at view ticket asked taken
+  opens_write : (value : List ℕ) → strong ≡ true → asked ≡ w.Write value → IsOpened (ToWrite value) ticket tag at view taken → Opens strong tag at view ticket asked taken
+  opens_other : IsOther taken.state → Each IsPlain taken.out.posts → Opens strong tag at view ticket asked taken
+
+-- what is asked of a call decides how it opens
+pub opens : (strong : Bool) (tag : Tag) (at : DcId) (view : View) (ticket : Stamp) (asked : Asked) (taken : Taken) → opened_call strong tag at view ticket asked ≡ Some taken → Opens strong tag at view ticket asked taken
+opens strong tag at view ticket asked taken h = by (table.opens strong tag at view ticket asked taken h)
+  where
+    other : table.OpensAs strong tag at view ticket asked taken → IsOther taken.state → ((value : List ℕ) → strong ≡ true → asked ≡ w.Write value → ⊥) → Opens strong tag at view ticket asked taken
+    other o is no_write = opens_other is (each_start IsPlain strong tag at view ticket asked taken o (record { read = tt; ask = no_write; look = tt; push = λ value d. tt }))
+
+    by : table.OpensAs strong tag at view ticket asked taken → Opens strong tag at view ticket asked taken
+    by (table.opens_read member is asked_is of one) = opens_read is asked_is (record { member = member; is_member = of; is = one })
+    by (table.opens_write member value is asked_is of one) = opens_write value is asked_is (record { member = member; is_member = of; is = one })
+    by (table.opens_move is asked_is one) = other (table.opens_move is asked_is one) (subst (λ (x : Taken). IsOther x.state) (sym one) tt) (λ value strong e. absurd (cc))
+    by (table.opens_get any is asked_is one) = other (table.opens_get any is asked_is one) (subst (λ (x : Taken). IsOther x.state) (sym one) tt) (λ value strong e. absurd (cc))
+    by (table.opens_put value is asked_is one) = other (table.opens_put value is asked_is one) (subst (λ (x : Taken). IsOther x.state) (sym one) tt) (λ value strong e. absurd (cc))
+    by (table.opens_eventual_move is asked_is one) = other (table.opens_eventual_move is asked_is one) (subst (λ (x : Taken). IsOther x.state) (sym one) tt) (λ value strong e. absurd (cc))
+
+-- ---- a read or a write that begins rests on what it should
 
 -- the call that begins
 abbrev pub new_call : Work → Stamp → Quorum → Store → ℕ → KeyId → Tag → CallState
@@ -63,20 +70,6 @@ begun_ticket ToRead ticket member s p at asked tag own h = tt
 begun_ticket (ToWrite value) ticket member s p at asked tag own h =
     subst (λ (t : Stamp). TicketOf (ToWrite value) (new_call (ToWrite value) t member s p at tag).progress) (sym h.1)
     (refl, omega arith, ap (λ (c : Call). c.proxy) (sym own), ap (λ (c : Call). c.seq) (sym own))
-
-begun_by : (a b c d : Bool) (one : Begun) (was : Option Begun) → a ≡ true → b ≡ true → c ≡ true → d ≡ true → (if a && (b && (c && d)) then Some one else was) ≡ Some one
-begun_by true true true true one was x y z u = refl
-begun_by false b c d one was x y z u = absurd (cc)
-begun_by true false c d one was x y z u = absurd (cc)
-begun_by true true false d one was x y z u = absurd (cc)
-begun_by true true true false one was x y z u = absurd (cc)
-
--- a read or a write of the key that begins is noted with its work
-pub begun_is : (key : KeyId) (top : Stamp) (epoch : ℕ) (call : Call) (at : KeyId) (asked : Asked) (more : List Mark) (was : Call → Option Begun) → at ≡ key → is_noted asked ≡ true
-    → begun_after key top epoch (k.Begin call at asked ∷ more) was call ≡ Some (record { work = asked; floor = top; epoch = epoch })
-begun_is key top epoch call at asked more was same noted =
-    begun_by (at.0 == key.0) (is_noted asked) (call.proxy == call.proxy) (call.seq == call.seq) (record { work = asked; floor = top; epoch = epoch }) (was call)
-    (subst (λ (x : KeyId). (x.0 == key.0) ≡ true) (sym same) (same_number key.0)) noted (same_number call.proxy) (same_number call.seq)
 
 noted_work : (work : Work) (ticket drawn : Stamp) (asked : Asked) → IsBegunAs work ticket asked drawn → is_noted asked ≡ true
 noted_work ToRead ticket drawn asked h = ap is_noted h
@@ -134,10 +127,10 @@ starts_backed key s g h p at asked st work ticket tags openings ends grows agree
     call : CallState
     call = new_call work ticket member s p at (first_tag (next_call s p) st.handle)
 
-    known_at : (x : KeyId) → at ≡ x → ViewKnown x s g (view_at (proxy_at s p).views x) → ViewKnown x s g (start_view s p at)
-    known_at x e v = subst (λ (y : KeyId). ViewKnown x s g (view_at (proxy_at s p).views y)) (sym e) v
+    known_at : (x : KeyId) → at ≡ x → IsOpenedView x s g (view_at (proxy_at s p).views x) → IsOpenedView x s g (start_view s p at)
+    known_at x e v = subst (λ (y : KeyId). IsOpenedView x s g (view_at (proxy_at s p).views y)) (sym e) v
 
-    known : ViewKnown key s g (start_view s p at)
+    known : IsOpenedView key s g (start_view s p at)
     known = known_at key same (record { opened = (openings.view_opened p st.exists).0; policy = (openings.view_opened p st.exists).1 })
 
     opened : Contains g.opened (start_view s p at).epoch
@@ -157,8 +150,8 @@ starts_backed key s g h p at asked st work ticket tags openings ends grows agree
         (member_is_in (policy_of s key (start_view s p at).epoch) (proxy_at s p).at.0 member (subst (λ (x : Policy). member_of x (proxy_at s p).at.0 ≡ Some member) policy is_member))
 
     noted : (noted_of key s h g).begun (next_call s p) ≡ Some (record { work = asked; floor = g.top; epoch = current_of s.directory key })
-    noted = subst (λ (x : Happening). begun_after key g.top (current_of s.directory key) x.marks g.begun (next_call s p) ≡ Some (record { work = asked; floor = g.top; epoch = current_of s.directory key })) (sym st.is)
-        (begun_is key g.top (current_of s.directory key) (next_call s p) at asked (ticket_marks (next_call s p) (start_ticket s p at) asked) g.begun same (noted_work work ticket (start_ticket s p at) asked agree))
+    noted = begun_first key g.top (current_of s.directory key) h.marks (ticket_marks (next_call s p) (start_ticket s p at) asked) g.begun (next_call s p) asked (noted_work work ticket (start_ticket s p at) asked agree)
+        (ap (λ (x : Happening). x.marks) st.is ∙ ap (λ (x : KeyId). k.Begin (next_call s p) x asked ∷ ticket_marks (next_call s p) (start_ticket s p at) asked) same)
 
     one_begun : (a b : Begun) → Some a ≡ Some b → a ≡ b
     one_begun a b e = cc

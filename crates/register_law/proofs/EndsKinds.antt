@@ -1,53 +1,20 @@
 -- A live call of a strong key reads, writes or moves it as one.
-use Rattle.std.proofs.Common.{◌≡◌, ℕ, Bool, true, false, sym, ap, ◌∙◌, subst}
-use Rattle.std.specs.Prelude.{Option, Some, None, option_map}
-use Rattle.span_base.specs.declared.ids.DcId.{DcId}
-use Rattle.span_base.specs.declared.ids.KeyId.{KeyId}
-use Rattle.ticket_rules.specs.declared.stamp.Stamp.{Stamp}
-use Rattle.wire_msg.specs.declared.tag.Tag.{Tag}
-use Rattle.wire_msg.specs.declared.message.Message.{Message}
-use Rattle.wire_msg.specs.declared.outputs.View.{View}
-use Rattle.wire_msg.specs.declared.outputs.Outputs.{Outputs}
-use Rattle.wire_msg.specs.Outputs.{Step}
-use Rattle.slot_pool.specs.declared.handles.Handle.{Handle}
-use Rattle.strong_proxy.specs.declared.state.CallState.{CallState}
-use Rattle.strong_proxy.specs.Rule as strong
-use Rattle.migration.specs.Move as strong_move
-use Rattle.run_marks.specs.declared.mark.Work.{Work}
-use Rattle.run_marks.specs.declared.mark.Work.TheVariants as w
-use Rattle.world_core.specs.declared.live.LiveCall.{LiveCall}
-use Rattle.world_core.specs.declared.live.LiveCall.TheVariants.{Strong, Eventual, StrongMove, EventualMove}
-use Rattle.world_core.specs.State.{Store, proxy_at, view_at}
-use Rattle.world_core.specs.Knowing.{learned}
-use Rattle.world_core.specs.Calls.{Taken, of_strong, of_strong_move, take, tag_of_call, key_of_call}
-use Rattle.world_core.specs.Starting.{opened_call, opened_strong, first_tag, ticket_of}
-use Rattle.world_core.specs.Step.{Happening, is_strong_key}
-use Rattle.register_law.specs.Ghost.{Ghost}
-use Rattle.register_law.specs.Tags.{IsLiveAt}
-use Rattle.register_law.specs.Ends.{IsOfStrong}
-use Rattle.register_law.specs.Invariant.{Inv}
-use Rattle.register_law.specs.Cases.{Happened, next_call}
-use Rattle.register_law.proofs.TagsSteps.{GoesOn, stays, turns, ends, take_goes_on}
-use Rattle.register_law.proofs.TagsCalls.{LiveIs, was_live, begins, went_on, taken_of, live_after}
-use Rattle.register_law.proofs.TagsFresh.{started_opens}
+use Rattle.std.proofs.Common.{◌≡◌, ℕ, Bool, true, sym, ap, ◌∙◌, subst}
+use Rattle.register_law.proofs.Words.{DcId, KeyId, Stamp, Message, Outputs, View, Tag, Handle, Work, Taken, key_of_call, tag_of_call, take, learned, first_tag, ticket_of, Store, proxy_at, view_at, Happening, is_strong_key, LiveCall, Eventual, EventualMove, Strong, StrongMove, Happened, next_call, IsOfStrong, Ghost, Inv, IsLiveAt}
+use Rattle.register_law.proofs.CallsRows.{opens, OpensAs, opens_read, opens_write, opens_move, opens_get, opens_put, opens_eventual_move}
+use Rattle.register_law.proofs.TagsSends.{GoesOn, stays, turns, ends}
+use Rattle.register_law.proofs.TagsSteps.{take_goes_on}
+use Rattle.register_law.proofs.TagsCalls.{LiveIs, was_live, begins, went_on, taken_of, live_after, started_opens}
 use Rattle.register_law.proofs.RequestsKept.{Before, start_strong}
-use Rattle.register_law.proofs.OpeningsAgree.{key_is_strong}
+use Rattle.register_law.proofs.OpeningsTold.{key_is_strong}
 
-mapped_kind : (o : Option (Step CallState)) (taken : Taken) → option_map of_strong o ≡ Some taken → IsOfStrong taken.state
-mapped_kind None taken h = absurd (cc)
-mapped_kind (Some step) taken h = let e : of_strong step ≡ taken = cc in subst (λ (x : Taken). IsOfStrong x.state) e tt
-
-strong_kind : (tag : Tag) (at : DcId) (view : View) (ticket : Stamp) (work : Work) (taken : Taken) → opened_strong tag at view ticket work ≡ Some taken → IsOfStrong taken.state
-strong_kind tag at view ticket w.Read taken h = mapped_kind (strong.opened_read tag at view) taken h
-strong_kind tag at view ticket (w.Write value) taken h = mapped_kind (strong.opened_write tag at view ticket value) taken h
-strong_kind tag at view ticket w.Get taken h = absurd (cc)
-strong_kind tag at view ticket w.GetAny taken h = absurd (cc)
-strong_kind tag at view ticket (w.Put value) taken h = absurd (cc)
-strong_kind tag at view ticket w.Move taken h = let e : of_strong_move (strong_move.started tag view.key) ≡ taken = cc in subst (λ (x : Taken). IsOfStrong x.state) e tt
-
-opened_kind : (b : Bool) (tag : Tag) (at : DcId) (view : View) (ticket : Stamp) (work : Work) (taken : Taken) → b ≡ true → opened_call b tag at view ticket work ≡ Some taken → IsOfStrong taken.state
-opened_kind true tag at view ticket work taken is h = strong_kind tag at view ticket work taken h
-opened_kind false tag at view ticket work taken is h = absurd (cc)
+opened_kind : (strongly : Bool) (tag : Tag) (at : DcId) (view : View) (ticket : Stamp) (work : Work) (taken : Taken) → strongly ≡ true → OpensAs strongly tag at view ticket work taken → IsOfStrong taken.state
+opened_kind strongly tag at view ticket work taken on (opens_read _ _ _ _ is) = subst (λ (x : Taken). IsOfStrong x.state) (sym is) tt
+opened_kind strongly tag at view ticket work taken on (opens_write _ _ _ _ _ is) = subst (λ (x : Taken). IsOfStrong x.state) (sym is) tt
+opened_kind strongly tag at view ticket work taken on (opens_move _ _ is) = subst (λ (x : Taken). IsOfStrong x.state) (sym is) tt
+opened_kind strongly tag at view ticket work taken on (opens_get _ off _ _) = absurd (cc)
+opened_kind strongly tag at view ticket work taken on (opens_put _ off _ _) = absurd (cc)
+opened_kind strongly tag at view ticket work taken on (opens_eventual_move off _ _) = absurd (cc)
 
 kind_stays : (call : LiveCall) (message : Message) (view : View) (seen : ℕ) → IsOfStrong call → IsOfStrong (take call message view seen).state
 kind_stays (Strong call) message view seen h = tt
@@ -77,7 +44,7 @@ live_kinds_after key s g h is inv p handle live lives at_key = by (live_after s 
     by (begins at work st _ new) =
         let opened = started_opens s p at work h st in
         let strongly = start_strong key s g h p at work before st (sym opened.key_is ∙ ap key_of_call (sym new) ∙ at_key) in
-        subst IsOfStrong (sym new) (opened_kind (is_strong_key s at) (first_tag (next_call s p) st.handle) (proxy_at s p).at (view_at (proxy_at s p).views at) (ticket_of (proxy_at s p) (view_at (proxy_at s p).views at) (next_call s p)) work st.taken strongly st.first)
-    by (went_on message old took _ new) =
+        subst IsOfStrong (sym new) (opened_kind _ _ _ _ _ work st.taken strongly (opens (is_strong_key s at) (first_tag (next_call s p) st.handle) (proxy_at s p).at (view_at (proxy_at s p).views at) (ticket_of (proxy_at s p) (view_at (proxy_at s p).views at) (next_call s p)) work st.taken st.first))
+    by (went_on message old took _ new _) =
         let was = inv.ends.live_kinds p _ old took.live (sym (taken_key s p message old) ∙ ap key_of_call (sym new) ∙ at_key) in
         subst IsOfStrong (sym new) (kind_stays old message (view_at (learned (proxy_at s p) message).views (key_of_call old)) (learned (proxy_at s p) message).seen was)

@@ -1,66 +1,41 @@
--- A read gives what it may.
-use Rattle.std.proofs.Common.{◌≡◌, ◌⊎◌, inl, inr, ℕ, List, ◌++◌, refl, sym, ap, ◌∙◌, subst}
-use Rattle.std.specs.Prelude.{Option, Some, None, Contains}
-use Rattle.std.proofs.lemmas.List.Elements.{Contains-append_cases}
-use Rattle.span_base.specs.declared.ids.Call.{Call}
-use Rattle.span_base.specs.declared.ids.KeyId.{KeyId}
-use Rattle.ticket_rules.specs.declared.stamp.Stamp.{Stamp}
-use Rattle.ticket_rules.specs.Stamp.{IsAtMost}
+-- What a read gives, and what a write confirms, was stored and is kept.
+use Rattle.std.proofs.Common.{◌≡◌, ◌⊎◌, inl, inr, ℕ, List, ◌++◌, refl, sym, ap, ◌∙◌, subst, Option, Some, Contains}
+use Rattle.register_law.proofs.Words.{Call, KeyId, IsAtMost, Stamp, Found, counted, best_stamp, Stage, Second, CallState, ToRead, ToWrite, Store, Happening, Happened, IsReadOf, Begun, Ghost, noted_of, Inv, IsWork, MayRepair, IsKnown, Post, Tag, tag_after, Next, Leg, IsKept, WasSent, Contains-append_cases, StrongWork as Work, Work as Asked}
 use Rattle.wire_msg.specs.declared.message.Message.TheVariants as m
 use Rattle.wire_msg.specs.declared.outputs.Reply.TheVariants as r
-use Rattle.call_phase.specs.declared.best.Found.{Found}
-use Rattle.strong_proxy.specs.declared.progress.Stage.{Stage}
-use Rattle.strong_proxy.specs.declared.progress.Stage.TheVariants.{First, Second, Looking, Ended}
-use Rattle.strong_proxy.specs.declared.state.Work.{Work}
-use Rattle.strong_proxy.specs.declared.state.Work.TheVariants.{ToRead, ToWrite}
-use Rattle.strong_proxy.specs.declared.state.CallState.{CallState}
-use Rattle.strong_proxy.specs.Counting.{counted}
-use Rattle.strong_proxy.specs.Rule.{best_stamp}
 use Rattle.strong_proxy.specs.declared.next.Next.TheVariants as n
-use Rattle.run_marks.specs.declared.mark.Work.{Work as Asked}
 use Rattle.run_marks.specs.declared.mark.Work.TheVariants as w
 use Rattle.run_marks.specs.declared.mark.Mark.TheVariants as k
-use Rattle.world_core.specs.State.{Store}
-use Rattle.world_core.specs.Step.{Happening}
-use Rattle.register_law.specs.Ghost.{Ghost, Begun, noted_of}
-use Rattle.register_law.specs.Seen.{IsKnown}
-use Rattle.register_law.specs.Live.{IsWork, MayRepair}
-use Rattle.register_law.specs.Ends.{IsReadOf}
-use Rattle.register_law.specs.Invariant.{Inv}
-use Rattle.register_law.specs.Cases.{Happened}
-use Rattle.register_law.proofs.Stable.{sent_stays}
+use Rattle.strong_proxy.proofs.Endings.{progress_after-key}
+use Rattle.register_law.proofs.MovesStable.{sent_stays, kept_stays}
 use Rattle.register_law.proofs.Next.{AnswersWhen, at_mark, repaired}
 use Rattle.register_law.proofs.CallsBacked.{begun_before}
-use Rattle.register_law.proofs.CallsKept.{ReadFloor, found_known}
-use Rattle.register_law.proofs.CallsStrong.{TookCounted, growth}
-use Rattle.register_law.proofs.CallsSent.{next_by}
+use Rattle.register_law.proofs.CallsStrong.{ReadFloor, found_known, TookCounted, took_counted}
+use Rattle.register_law.proofs.Growth.{grows_by}
+use Rattle.register_law.proofs.CallsSent.{next_by, Demanded, plain, at_start, by_call, demanded, done_sends, DoneSends, LegSends}
 use Rattle.register_law.proofs.CallsMessages.{rests_by}
-use Rattle.register_law.proofs.EndsNumbered.{marked_begins_not}
-use Rattle.register_law.proofs.EndsBegun.{BeginsWith, begun_with}
+use Rattle.register_law.proofs.EndsBegun.{marked_begins_not, BeginsWith, begun_with}
 use Rattle.register_law.proofs.EndsAnswered.{AnsweredNow, answered_now, AnswerIs, gives, confirms, answer_is, now_counted}
-use Rattle.register_law.proofs.Basics.{is_some_of}
+use Rattle.register_law.proofs.Basics.{is_some_of, sent_or_posted}
+use Rattle.register_law.proofs.FloorsMet.{stored_is_kept}
 
 -- what a read gives
 pub read_of_stays : (key : KeyId) (s : Store) (g : Ghost) (h : Happening) → Happened s h → Inv key s g → (stamp : Stamp) (value : List ℕ) → IsReadOf key s stamp value → IsReadOf key h.store stamp value
 read_of_stays key s g h is inv stamp value (inl zero) = inl zero
 read_of_stays key s g h is inv stamp value (inr by) =
-    inr (by.0, record { tag = by.1.tag; of = by.1.of; sent = sent_stays key s g h.store (noted_of key s h g) (m.Store by.1.tag key stamp value) (growth key s g h is inv) by.1.sent })
+    inr (by.0, record { tag = by.1.tag; of = by.1.of; sent = sent_stays key s g h.store (noted_of key s h g) (m.Store by.1.tag key stamp value) (grows_by key s g h is inv) by.1.sent })
 
 known_is_read : (key : KeyId) (s : Store) (stamp : Stamp) (value : List ℕ) → IsKnown key s stamp value → IsReadOf key s stamp value
 known_is_read key s stamp value (inl zero) = inl zero
 known_is_read key s stamp value (inr stored) = inr (stored.tag.call, record { tag = stored.tag; of = refl; sent = stored.sent })
 
-work_is_read : (work : Work) (asked : Asked) → work ≡ ToRead → IsWork work asked → asked ≡ w.Read
+pub work_is_read : (work : Work) (asked : Asked) → work ≡ ToRead → IsWork work asked → asked ≡ w.Read
 work_is_read ToRead asked e h = h
 work_is_read (ToWrite value) asked e h = absurd (cc)
 
 repair_told : (key : KeyId) (s : Store) (work : Work) (stage : Stage) (best : Option Found) (found : Found) (floor : Stamp) → work ≡ ToRead → stage ≡ Second → best ≡ Some found → MayRepair key s work stage best floor → IsKnown key s found.stamp found.value × IsAtMost floor found.stamp
 repair_told key s ToRead Second (Some x) found floor a b e h = let same : x ≡ found = cc in subst (λ (y : Found). IsKnown key s y.stamp y.value × IsAtMost floor y.stamp) same h
-repair_told key s ToRead Second None found floor a b e h = absurd (cc)
-repair_told key s ToRead First best found floor a b e h = absurd (cc)
-repair_told key s ToRead Looking best found floor a b e h = absurd (cc)
-repair_told key s ToRead Ended best found floor a b e h = absurd (cc)
-repair_told key s (ToWrite value) stage best found floor a b e h = absurd (cc)
+repair_told key s work stage best found floor a b e h = absurd (cc)
 
 -- what a read that answers gives is known, and isn't below what its begin found
 pub record GivesWell (key : KeyId) (s : Store) (b : Begun) (stamp : Stamp) (value : List ℕ) : Type 0 where
@@ -126,5 +101,45 @@ ok_reads_after key s g h is inv floor call b stamp value e c =
 
     now : AnsweredNow key s g h call (r.Value stamp value) → (b.work ≡ w.Read) × IsAtMost b.floor stamp × IsReadOf key h.store stamp value
     now a =
-        let well = gives_well key s g h call b stamp value is inv floor a (begun_before (g.begun call) ((noted_of key s h g).begun call) b a.begun ((growth key s g h is inv).begun call) e) in
+        let well = gives_well key s g h call b stamp value is inv floor a (begun_before (g.begun call) ((noted_of key s h g).begun call) b a.begun ((grows_by key s g h is inv).begun call) e) in
         (well.read, well.above, read_of_stays key s g h is inv stamp value well.known)
+
+-- ---- what a Confirm tells is kept
+
+-- a write that confirms has stored
+record SendsConfirm (now : CallState) (next : Next) (key : KeyId) (stamp : Stamp) : Type 0 where
+  pub next_is : next ≡ n.Stored
+  pub stamp_is : now.progress.leg.ticket ≡ stamp
+  pub key_is : now.progress.key ≡ key
+
+leg_confirms_none : (X : Type 0) (work : Work) (at : KeyId) (of : Tag) (leg : Leg) (tag : Tag) (key : KeyId) (stamp : Stamp) → LegSends work at of leg (m.Confirm tag key stamp) → X
+leg_confirms_none X ToRead at of leg tag key stamp h = absurd (cc)
+leg_confirms_none X (ToWrite value) at of leg tag key stamp h = absurd (cc)
+
+sends_confirm : (now : CallState) (next : Next) (tag : Tag) (key : KeyId) (stamp : Stamp) → DoneSends now next (m.Confirm tag key stamp) → SendsConfirm now next key stamp
+sends_confirm now n.Stored tag key stamp h = record { next_is = refl; stamp_is = cc; key_is = cc }
+sends_confirm now n.Store tag key stamp h = absurd (let e = h.2 in cc)
+sends_confirm now n.Repair tag key stamp h = absurd (let e = h.2 in cc)
+sends_confirm now n.Look tag key stamp h = absurd (cc)
+sends_confirm now n.Moved tag key stamp h = absurd (cc)
+sends_confirm now (n.Enter leg) tag key stamp h = leg_confirms_none (SendsConfirm now (n.Enter leg) key stamp) now.work now.progress.key (tag_after now.progress) leg tag key stamp h
+sends_confirm now next tag key stamp h = absurd h
+
+-- what a Confirm tells is kept
+pub confirms_kept : (key : KeyId) (s : Store) (g : Ghost) (h : Happening) → Happened s h → Inv key s g → (tag : Tag) (stamp : Stamp) → WasSent h.store (m.Confirm tag key stamp) → IsKept key h.store (noted_of key s h g) stamp
+confirms_kept key s g h is inv tag stamp sent =
+    kept_stays key s g h.store (noted_of key s h g) stamp (grows_by key s g h is inv) inv.openings.published
+    (elim (sent_or_posted s h is (record { to = sent.0; message = m.Confirm tag key stamp }) sent.1) as (λ _. IsKept key s g stamp) [
+      | inl old ↦ inv.messages.confirm_kept tag stamp (sent.0, old)
+      | inr new ↦ from new (demanded s h is (record { to = sent.0; message = m.Confirm tag key stamp }) new)
+    ])
+  where
+    from : Contains h.posts (record { to = sent.0; message = m.Confirm tag key stamp }) → Demanded s h (m.Confirm tag key stamp) → IsKept key s g stamp
+    from new (plain it) = absurd it
+    from new (at_start p at asked st e) = absurd (cc)
+    from new (by_call p message was took counts posts) =
+        let c = sends_confirm (counted was message) (next_by s p message was) tag key stamp
+        (done_sends (next_by s p message was) (counted was message) (record { to = sent.0; message = m.Confirm tag key stamp }) (subst (λ (x : List Post). Contains x (record { to = sent.0; message = m.Confirm tag key stamp })) posts new)) in
+        let t = took_counted key s g h p message was is inv took (sym (progress_after-key was.progress message) ∙ c.key_is) counts in
+        let x = rests_by s p message was n.Stored c.next_is in
+        subst (IsKept key s g) c.stamp_is (stored_is_kept key s g (counted was message) x.value inv t.event.backed t.asked t.event.at_key x.work_is x.stage_is x.quorum)

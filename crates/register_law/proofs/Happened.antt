@@ -1,46 +1,16 @@
 -- What an event that is taken was: the one place that opens the step.
-use Rattle.std.proofs.Common.{◌≡◌, ℕ, ◌+◌, ◌<◌, Bool, true, false, List, [], ◌∷◌, refl, ap, ◌∙◌, arith}
-use Rattle.std.specs.Prelude.{nat_lt, not, ◌&&◌, ◌==◌, if◌then◌else◌, length, Option, Some, None, slice_get, Ok, Err, Contains}
+use Rattle.std.proofs.Common.{◌≡◌, ℕ, ◌+◌, ◌<◌, Bool, true, false, List, [], ◌∷◌, refl, ap, ◌∙◌, nat_lt, not, ◌&&◌, ◌==◌, if◌then◌else◌, length, Option, Some, None, slice_get, Ok, Err, Contains}
 use Rattle.std.specs.Option.{option_map_or}
-use Rattle.std.proofs.lemmas.Grind.{common_steps}
-use Rattle.std.proofs.lemmas.Option.{slice_get_within, get_or_from_slice_get}
-use Rattle.span_base.specs.declared.ids.Call.{Call}
-use Rattle.span_base.specs.declared.ids.KeyId.{KeyId}
-use Rattle.span_base.specs.declared.words.What.TheVariants.{Messages, FrameBytes, Epochs}
-use Rattle.wire_msg.specs.declared.actor.Actor.{Actor}
-use Rattle.wire_msg.specs.declared.message.Message.{Message}
-use Rattle.wire_msg.specs.declared.outputs.Post.{Post}
-use Rattle.wire_msg.specs.declared.outputs.View.{View}
-use Rattle.wire_msg.specs.declared.outputs.Reply.{Reply}
-use Rattle.wire_msg.specs.Sizes.{bulk_of}
-use Rattle.wire_msg.specs.Outputs.{Step}
+use Rattle.register_law.proofs.Words.{Call, KeyId, Epochs, FrameBytes, Messages, Step, bulk_of, Actor, Message, Post, Reply, View, State, latest, after_publish, table_fault, PublishFault, SetPolicy, after_take, item_at, next_handle, Handle, is_dead, Mark, Work, Taken, tag_of_call, learned, Done, draws_ticket, ends_at_once, enters, enters_with, first_tag, is_member, opened_call, starts, starts_as, starts_in, ticket_of, Proxy, Store, proxy_at, replica_at, view_at, Happening, Outcome, byte_limit, call_takes, deliver_to, fits_mode, give_up, give_up_under, gives_up, handle_in, handle_of_call, is_strong_key, judged, may_give_up, message_limit, nothing, only_learns, opens_none, proxy_did, proxy_takes, proxy_takes_as, replica_takes, sends, start, start_at, step, with_proxy, with_replica, Event, Deliver, GiveUp, Publish, Start, StopProxy, StopReplica, Limit, NoActor, NoCall, NoKey, NoMessage, WrongMode, LiveCall, Happened, call_took, did, directory_took, gave_up, ignored, next_call, not_published, proxy_learned, proxy_stopped, published, quietly, refused_at_once, replica_stopped, replica_took, started, slice_get_within, get_or_from_slice_get}
 use Rattle.wire_msg.specs.declared.actor.Actor.TheVariants as to
 use Rattle.wire_msg.specs.declared.outputs.Reply.TheVariants as r
-use Rattle.slot_pool.specs.declared.handles.Handle.{Handle}
-use Rattle.slot_pool.specs.Slots.{item_at, next_handle, after_take}
 use Rattle.replica_core.specs.Rule as replica
-use Rattle.epoch_directory.specs.declared.table.PublishFault.{PublishFault}
-use Rattle.epoch_directory.specs.declared.table.SetPolicy.{SetPolicy}
-use Rattle.epoch_directory.specs.State.{latest, State}
-use Rattle.epoch_directory.specs.Tables.{after_publish, table_fault}
 use Rattle.epoch_directory.specs.declared.table.PublishFault.TheVariants as fault
 use Rattle.epoch_directory.specs.Step as directory_step
-use Rattle.run_marks.specs.declared.mark.Work.{Work}
-use Rattle.run_marks.specs.declared.mark.Mark.{Mark}
-use Rattle.run_marks.specs.History.{is_dead}
 use Rattle.run_marks.specs.declared.mark.Mark.TheVariants as k
 use Rattle.run_marks.specs.declared.mark.NoEpochCause.TheVariants as cause
-use Rattle.world_core.specs.declared.live.LiveCall.{LiveCall}
-use Rattle.world_core.specs.declared.event.Event.{Event}
-use Rattle.world_core.specs.declared.event.Event.TheVariants.{Start, Deliver, StopReplica, StopProxy, GiveUp, Publish}
 use Rattle.world_core.specs.declared.event.StepFault.{StepFault}
-use Rattle.world_core.specs.declared.event.StepFault.TheVariants.{NoActor, NoKey, WrongMode, NoMessage, NoCall, Limit}
-use Rattle.world_core.specs.State.{Store, Proxy, replica_at, proxy_at, view_at}
-use Rattle.world_core.specs.Knowing.{learned}
-use Rattle.world_core.specs.Calls.{Taken, tag_of_call}
-use Rattle.world_core.specs.Starting.{Done, is_member, draws_ticket, ticket_of, opened_call, ends_at_once, enters, enters_with, first_tag, starts_in, starts_as, starts}
-use Rattle.world_core.specs.Step.{Happening, Outcome, nothing, sends, with_sent, with_proxy, with_replica, proxy_did, is_strong_key, fits_mode, start_at, start, replica_takes, proxy_takes, proxy_takes_as, call_takes, only_learns, handle_in, deliver_to, handle_of_call, may_give_up, gives_up, give_up_under, give_up, opens_none, judged, step, message_limit, byte_limit}
-use Rattle.register_law.specs.Cases.{Happened, did, next_call, quietly, ignored, replica_stopped, proxy_stopped, refused_at_once, started, replica_took, directory_took, proxy_learned, call_took, gave_up, published, not_published}
+use Rattle.world_core.specs.Step.{with_sent}
 use Rattle.register_law.proofs.Basics.{within_is, not_false}
 
 choose : (h : Happening) (X : Type 0) (b : Bool) (one other : Outcome) → (b ≡ true → one ≡ Ok h → X) → (b ≡ false → other ≡ Ok h → X) → (if b then one else other) ≡ Ok h → X

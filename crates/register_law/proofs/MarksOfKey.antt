@@ -1,34 +1,44 @@
--- What the invariant tells of the marks of the key's calls.
-use Rattle.std.proofs.Common.{◌≡◌, inl, inr, ℕ, ◌≤◌, true, List, ◌∷◌, ◌++◌, refl, sym, ap, ◌∙◌, subst, arith}
-use Rattle.std.specs.Prelude.{◌==◌, ◌&&◌, Option, Some, None, Contains}
-use Rattle.std.proofs.lemmas.Grind.{common_steps}
-use Rattle.std.proofs.lemmas.List.Elements.{Contains-append_left}
-use Rattle.span_base.specs.declared.ids.Call.{Call}
-use Rattle.span_base.specs.declared.ids.KeyId.{KeyId}
-use Rattle.ticket_rules.specs.declared.stamp.Stamp.{Stamp}
-use Rattle.ticket_rules.specs.Stamp.{stamp_zero, IsAbove, IsAtMost}
-use Rattle.wire_msg.specs.declared.outputs.Reply.{Reply}
+-- What the marks of a key tell after every run.
+use Rattle.std.proofs.Common.{◌≡◌, List, [], ◌∷◌, ◌++◌, refl, sym, ap, ◌∙◌, subst, arith, inl, inr, ℕ, ◌≤◌, true, Contains, ◌==◌, ◌&&◌, Option, Some, None}
+use Rattle.register_law.proofs.Words.{Call, KeyId, IsAbove, IsAtMost, stamp_zero, Stamp, Reply, EndsWith, history_of, is_register_work, is_same_call, Mark, Work, Store, BegunAfter, IsReadOf, StoredBy, Begun, Ghost, answered_with, Inv, StoreBacked, Contains-append_right, Contains-append_left, some_passes, two_splits}
 use Rattle.wire_msg.specs.declared.outputs.Reply.TheVariants as r
-use Rattle.run_marks.specs.declared.mark.Work.{Work}
-use Rattle.run_marks.specs.declared.mark.Mark.{Mark}
-use Rattle.run_marks.specs.History.{is_same_call, is_register_work, begins_at, is_of, history_of, IsWriteOf, EndsWith, EndsBefore}
+use Rattle.run_marks.specs.History.{begins_at, is_of, IsWriteOf, EndsBefore}
 use Rattle.run_marks.specs.declared.mark.Work.TheVariants as w
 use Rattle.run_marks.specs.declared.mark.Mark.TheVariants as k
 use Rattle.register_order.specs.Agree.{BeginsOnce}
 use Rattle.register_order.specs.Facts.{MarksTell}
-use Rattle.register_order.proofs.Members.{some_passes, two_splits}
 use Rattle.register_order.proofs.Begins.{begins_as_one}
 use Rattle.register_order.proofs.OfKey.{in_log, in_history, history_begins_once, history_begins_first, history_ends_once, ends_before_in_log, register_call_is_of}
-use Rattle.world_core.specs.State.{Store}
-use Rattle.register_law.specs.Ghost.{Ghost, Begun, is_noted, answered_with}
-use Rattle.register_law.specs.Sent.{StoreBacked}
-use Rattle.register_law.specs.Ends.{StoredBy, IsReadOf, BegunAfter}
-use Rattle.register_law.specs.Invariant.{Inv}
-use Rattle.register_law.proofs.Quorums.{and_left, and_right}
-use Rattle.register_law.proofs.Splits.{in_between}
-use Rattle.register_law.proofs.Basics.{key_is, some_begun, is_some_of}
 use Rattle.register_order.proofs.Tests.{same_call}
 use Rattle.register_order.proofs.Tickets.{numbered_above_zero}
+use Rattle.register_law.proofs.Quorums.{and_left, and_right}
+use Rattle.register_law.proofs.Basics.{register_noted, key_is, some_begun, is_some_of}
+
+-- where an item of two lists stands
+pub data Splits {X : Type 0} (a b e : List X) (x : X) (l : List X) : Type 0 where
+  in_front : (m : List X) → a ≡ e ++ x ∷ m → l ≡ m ++ b → Splits a b e x l
+  behind : (m : List X) → e ≡ a ++ m → b ≡ m ++ x ∷ l → Splits a b e x l
+
+pub splits : {X : Type 0} → (a b e : List X) (x : X) (l : List X) → a ++ b ≡ e ++ x ∷ l → Splits a b e x l
+splits {X} [] b e x l h = behind e refl h
+splits {X} (y ∷ ys) b [] x l h =
+    let first : y ≡ x = cc in
+    let rest : ys ++ b ≡ l = cc in
+    in_front ys (ap (λ (z : X). z ∷ ys) first) (sym rest)
+splits {X} (y ∷ ys) b (z ∷ zs) x l h =
+    let first : y ≡ z = cc in
+    let rest : ys ++ b ≡ zs ++ x ∷ l = cc in
+    more first (splits ys b zs x l rest)
+  where
+    more : y ≡ z → Splits ys b zs x l → Splits (y ∷ ys) b (z ∷ zs) x l
+    more same (in_front m is back) = in_front m (ap (λ (v : X). v ∷ ys) same ∙ ap (λ (vs : List X). z ∷ vs) is) back
+    more same (behind m is back) = behind m (ap (λ (vs : List X). z ∷ vs) is ∙ ap (λ (v : X). v ∷ (ys ++ m)) (sym same)) back
+
+-- what stands between two lists is in them
+pub in_between : {X : Type 0} → (xs e : List X) (x : X) (l : List X) → xs ≡ e ++ x ∷ l → Contains xs x
+in_between {X} xs e x l h = subst (λ (v : List X). Contains v x) (sym h) (Contains-append_right e (x ∷ l) x (0, omega arith, refl))
+
+-- ---- what the invariant tells of the marks of the key's calls
 
 abbrev pub floor_by : Option Begun → Stamp
 floor_by None = stamp_zero
@@ -44,14 +54,6 @@ pub record IsOfKey (key : KeyId) (g : Ghost) (call : Call) : Type 0 where
   pub begun : g.begun call ≡ Some b
   pub is : is_of key.0 g.marks call ≡ true
 
-register_noted : (work : Work) → is_register_work work ≡ true → is_noted work ≡ true
-register_noted w.Read h = refl
-register_noted (w.Write value) h = refl
-register_noted w.Get h = absurd (cc)
-register_noted w.GetAny h = absurd (cc)
-register_noted (w.Put value) h = absurd (cc)
-register_noted w.Move h = absurd (cc)
-
 pub of_key : (key : KeyId) (s : Store) (g : Ghost) → Inv key s g → (call : Call) → is_of key.0 g.marks call ≡ true → IsOfKey key g call
 of_key key s g inv call is = let some = some_passes (begins_at key.0 call) g.marks is in by some.0 some.1 some.2
   where
@@ -63,10 +65,7 @@ of_key key s g inv call is = let some = some_passes (begins_at key.0 call) g.mar
         let marked : Contains g.marks (k.Begin call key work) = subst (λ (x : KeyId). Contains g.marks (k.Begin call x work)) there (subst (λ (x : Call). Contains g.marks (k.Begin x at work)) (sym same) c) in
         let b = some_begun (g.begun call) (inv.ends.noted call work marked (register_noted work (and_right (at.0 == key.0) (is_register_work work) two))) in
         record { b = b.0; begun = b.1; is = is }
-    by (k.Ticket begun stamp) c h = absurd (cc)
-    by (k.End begun reply) c h = absurd (cc)
-    by (k.Epoch epoch) c h = absurd (cc)
-    by (k.NoEpoch cause) c h = absurd (cc)
+    by mark c h = absurd (cc)
 
 begins_once : (key : KeyId) (s : Store) (g : Ghost) → Inv key s g → BeginsOnce g.marks
 begins_once key s g inv call at other work again earlier later split = inv.ends.begins_once call at work earlier later split other again

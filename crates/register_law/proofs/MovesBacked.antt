@@ -1,45 +1,13 @@
 -- A move that goes on is backed.
-use Rattle.std.proofs.Common.{◌≡◌, ℕ, ◌<◌, ◌≤◌, true, false, List, refl, sym, ap, ◌∙◌, subst, arith}
-use Rattle.std.specs.Prelude.{◌==◌, Option, Some, None, Contains}
-use Rattle.std.proofs.lemmas.Grind.{common_steps}
-use Rattle.span_base.specs.DcSet.{has, no_centre}
-use Rattle.span_base.specs.declared.ids.DcId.{DcId}
-use Rattle.span_base.specs.declared.ids.KeyId.{KeyId}
-use Rattle.span_base.specs.declared.dc_set.DcSet.{DcSet}
-use Rattle.span_base.specs.declared.policy.Policy.{Policy}
-use Rattle.span_base.specs.PolicyParts.{faults_of, members_of}
-use Rattle.span_base.proofs.Sets.{has-no_centre}
-use Rattle.ticket_rules.specs.declared.stamp.Stamp.{Stamp}
-use Rattle.wire_msg.specs.declared.tag.Tag.{Tag}
-use Rattle.wire_msg.specs.declared.message.Message.{Message}
-use Rattle.wire_msg.specs.Posts.{tag_of}
-use Rattle.wire_msg.specs.Outputs.{Step}
+use Rattle.std.proofs.Common.{◌≡◌, ℕ, ◌<◌, ◌≤◌, true, false, List, refl, sym, ap, ◌∙◌, subst, arith, ◌==◌, Option, Some, None, Contains}
+use Rattle.register_law.proofs.Words.{has, no_centre, faults_of, members_of, DcSet, DcId, KeyId, Policy, Stamp, Step, tag_of, Message, Tag, better, counts, has_quorum, with_good, Found, Phase, Moving, epoch_at, first_write_set, quorum_frozen, strong_rule, Epoch, Freezing, Seeding, Handle, Store, policy_of, Ghost, Inv, FreezesCounted, IsLiveMove, IsMoveRequest, IsTargetOf, MoveBacked, SeedsBacked, YesCounted, Grows, HasMost, IsFrozenSet, IsKnown, IsSettled, MeetsAll, WasSent, is_at_most, version_before, HereBacked, SwitchBacked, request_key, common_steps, has-no_centre, MoveStage as Stage, IsAtMost-trans}
 use Rattle.wire_msg.specs.declared.message.Message.TheVariants as m
-use Rattle.call_phase.specs.declared.best.Found.{Found}
-use Rattle.call_phase.specs.declared.phase.Phase.{Phase}
-use Rattle.call_phase.specs.Best.{better}
-use Rattle.call_phase.specs.Counting.{counts, has_quorum, with_good}
 use Rattle.call_phase.proofs.Tags.{same_tag}
-use Rattle.slot_pool.specs.declared.handles.Handle.{Handle}
-use Rattle.migration.specs.declared.stage.Epoch.{Epoch}
-use Rattle.migration.specs.declared.stage.Stage.{Stage}
-use Rattle.migration.specs.declared.stage.Stage.TheVariants.{Looking, Freezing, Seeding}
-use Rattle.migration.specs.Strong.{first_write_set, quorum_frozen, strong as strong_rule}
-use Rattle.migration.specs.Move.{Moving, epoch_at}
-use Rattle.world_core.specs.State.{Store, policy_of}
-use Rattle.register_law.specs.Ghost.{Ghost}
-use Rattle.register_law.specs.Seen.{WasSent, HasMost, IsKnown, IsSettled, IsFrozenSet, Grows, MeetsAll, version_before, is_at_most}
-use Rattle.register_law.specs.Tags.{request_key}
-use Rattle.register_law.specs.Sent.{HereBacked, SwitchBacked}
-use Rattle.register_law.specs.Live.{IsLiveMove, IsMoveRequest, IsTargetOf, FreezesCounted, YesCounted, SeedsBacked, MoveBacked}
-use Rattle.register_law.specs.Invariant.{Inv}
-use Rattle.register_law.proofs.Chain.{at_most_test}
-use Rattle.register_law.proofs.OpeningsAsked.{KeysAgree}
-use Rattle.register_law.proofs.MovesStep.{MoveTook, unheard, was_current, froze_first, froze_one, froze_all, seeded_next, seeded_all, was_refused, was_stale, arrived}
-use Rattle.register_law.proofs.MovesStable.{IsOut, move_stays, seeds_stay, target_stays, settled_stays, freezes_stay, yes_stays}
-use Rattle.register_law.proofs.MovesCount.{first_member, frozen_meets, most_pass, counts_asked, none_in, within_good, yes_more, froze_more, better_some}
-use Rattle.register_order.proofs.Stamps.{IsAtMost-trans}
-use Rattle.register_law.proofs.Tagged.{counts_own}
+use Rattle.migration.specs.declared.stage.Stage.TheVariants.{Looking}
+use Rattle.register_law.proofs.Quorums.{at_most_test}
+use Rattle.register_law.proofs.MovesStep.{MoveTook, unheard, was_current, froze_first, froze_one, froze_all, seeded_next, seeded_all, was_refused, was_stale, arrived, counts_own}
+use Rattle.register_law.proofs.MovesStable.{IsOut, settled_stays, move_stays, seeds_stay, target_stays, freezes_stay, yes_stays}
+use Rattle.register_law.proofs.MovesTook.{first_member, frozen_meets, most_pass, counts_asked, none_in, within_good, yes_more, froze_more, better_some}
 
 -- an answer with the move's tag answers the request of its phase
 pub record AnswersMove (key : KeyId) (s : Store) (call : Moving) : Type 0 where
@@ -54,7 +22,7 @@ answers_move key s g inv p handle call live message sent none tag =
     record {
       request = r.0;
       sent = r.1;
-      is = inv.moves.request p handle call r.0 live r.1 r.2 (record { call = ap (λ (t : Tag). t.call) same; phase = ap (λ (t : Tag). t.phase) same });
+      is = (inv.moves p handle call live).request r.0 r.1 r.2 (record { call = ap (λ (t : Tag). t.call) same; phase = ap (λ (t : Tag). t.phase) same });
     }
 
 -- the Lookup, the Freeze, the Seed or the Switch that the move has sent
@@ -76,11 +44,11 @@ not_equal : (a b : ℕ) → a ≤ b → (a == b) ≡ false → a < b
 not_equal a b h k = grind (arith, common_steps)
 
 -- the Here that a move takes is of its key
-pub here_is : (key : KeyId) (s : Store) (g : Ghost) → Inv key s g → KeysAgree key s → (p : ℕ) (handle : Handle) (call : Moving) → IsLiveMove key s p handle call → (tag : Tag) (at : KeyId) (epoch newest : ℕ) (policy newest_policy : Policy)
+pub here_is : (key : KeyId) (s : Store) (g : Ghost) → Inv key s g → (p : ℕ) (handle : Handle) (call : Moving) → IsLiveMove key s p handle call → (tag : Tag) (at : KeyId) (epoch newest : ℕ) (policy newest_policy : Policy)
     → WasSent s (m.Here tag at epoch policy newest newest_policy) → call.stage ≡ Looking → call.phase.tag ≡ tag → HereBacked key s g epoch policy newest newest_policy
-here_is key s g inv keys p handle call live tag at epoch newest policy newest_policy sent stage same =
-    let asked : WasSent s (m.Lookup tag at) = keys.here_asked tag at epoch policy newest newest_policy sent in
-    let is : IsMoveRequest call.stage call (m.Lookup tag at) = inv.moves.request p handle call (m.Lookup tag at) live asked refl (record { call = ap (λ (t : Tag). t.call) (sym same); phase = ap (λ (t : Tag). t.phase) (sym same) }) in
+here_is key s g inv p handle call live tag at epoch newest policy newest_policy sent stage same =
+    let asked : WasSent s (m.Lookup tag at) = inv.keys.here_asked tag at epoch policy newest newest_policy sent in
+    let is : IsMoveRequest call.stage call (m.Lookup tag at) = (inv.moves p handle call live).request (m.Lookup tag at) asked refl (record { call = ap (λ (t : Tag). t.call) (sym same); phase = ap (λ (t : Tag). t.phase) (sym same) }) in
     let look : m.Lookup tag at ≡ m.Lookup call.phase.tag call.key = subst (λ (x : Stage). IsMoveRequest x call (m.Lookup tag at)) stage is in
     let at_key : at ≡ key = key_in look ∙ live.at_key in
     inv.messages.here_opened tag epoch policy newest newest_policy (subst (λ (x : KeyId). WasSent s (m.Here tag x epoch policy newest newest_policy)) at_key sent)
@@ -93,7 +61,7 @@ pub found_frozen : (key : KeyId) (s : Store) (g : Ghost) → Inv key s g → (p 
     → WasSent s (m.Have tag replica version mark value) → call.stage ≡ Freezing old target best → counts call.phase tag replica ≡ true → better best version value ≡ Some found
     → FreezesCounted s (with_good call.phase replica) found
 found_frozen key s g inv p handle call live tag replica version mark value old target best found sent stage c e =
-    let k : MoveBacked key s g call.phase (Freezing old target best) = subst (MoveBacked key s g call.phase) stage (inv.moves.backed p handle call live) in
+    let k : MoveBacked key s g call.phase (Freezing old target best) = subst (MoveBacked key s g call.phase) stage ((inv.moves p handle call live).backed) in
     froze_more s call.phase best replica version mark value found k.3 (counts_asked call.phase tag replica c)
     (subst (λ (x : Tag). WasSent s (m.Have x replica version mark value)) (sym (counts_own call.phase tag replica c)) sent) e
 
@@ -124,26 +92,26 @@ switching_now : (key : KeyId) (s : Store) (g : Ghost) → Inv key s g → (p : �
     → WasSent s (m.Yes tag replica) → call.stage ≡ Seeding old target frozen seeded top_gone → counts call.phase tag replica ≡ true → has_quorum (faults_of target.policy) (with_good call.phase replica) ≡ true
     → SeedsBacked key s g old target frozen seeded × IsSettled key s g target.number seeded
 switching_now key s g inv p handle call live tag replica old target frozen seeded top_gone sent stage c quorum =
-    let k : MoveBacked key s g call.phase (Seeding old target frozen seeded top_gone) = subst (MoveBacked key s g call.phase) stage (inv.moves.backed p handle call live) in
+    let k : MoveBacked key s g call.phase (Seeding old target frozen seeded top_gone) = subst (MoveBacked key s g call.phase) stage ((inv.moves p handle call live).backed) in
     let same = counts_own call.phase tag replica c in
     let seed = seed_asked key s call old target frozen seeded top_gone (answers_move key s g inv p handle call live (m.Yes tag replica) sent refl same) live.at_key stage in
     let later = k.0.target.later in (
       k.0,
       settled_now key s g inv target (with_good call.phase replica) seeded seed.0 (omega arith, k.0.target.published) k.0.target.policy k.1 seed.1
           (yes_more s call.phase replica k.2 (subst (λ (x : Tag). WasSent s (m.Yes x replica)) (sym same) sent))
-          (within_good call.phase tag replica c (λ d. inv.moves.within p handle call d live)) quorum,
+          (within_good call.phase tag replica c (λ d. (inv.moves p handle call live).within d)) quorum,
     )
 
 -- what a move goes on to is backed
-pub backed_after : (key : KeyId) (s : Store) (g : Ghost) (z : Store) (h : Ghost) → Inv key s g → KeysAgree key s → Grows key s g z h → (p : ℕ) (handle : Handle) (call : Moving) → IsLiveMove key s p handle call → (message : Message) → WasSent s message
+pub backed_after : (key : KeyId) (s : Store) (g : Ghost) (z : Store) (h : Ghost) → Inv key s g → Grows key s g z h → (p : ℕ) (handle : Handle) (call : Moving) → IsLiveMove key s p handle call → (message : Message) → WasSent s message
     → (new : (Step Moving)) → MoveTook strong_rule call message new → MoveBacked key z h new.state.phase new.state.stage
-backed_after key s g z h inv keys grows p handle call live message sent new (unheard is) =
-    subst (λ (x : (Step Moving)). MoveBacked key z h x.state.phase x.state.stage) (sym is) (move_stays key s g z h call.phase call.stage grows (opened_epochs key s g inv) (inv.moves.backed p handle call live))
-backed_after key s g z h inv keys grows p handle call live message sent new (was_current epoch own is) = subst (λ (x : (Step Moving)). MoveBacked key z h x.state.phase x.state.stage) (sym is) tt
-backed_after key s g z h inv keys grows p handle call live message sent new (was_stale epoch own is) = subst (λ (x : (Step Moving)). MoveBacked key z h x.state.phase x.state.stage) (sym is) tt
-backed_after key s g z h inv keys grows p handle call live message sent new (arrived tag at epoch old target frozen seeded stage got c is) = subst (λ (x : (Step Moving)). MoveBacked key z h x.state.phase x.state.stage) (sym is) tt
-backed_after key s g z h inv keys grows p handle call live message sent new (froze_first tag at epoch newest policy newest_policy stage got c apart is) =
-    let b = here_is key s g inv keys p handle call live tag at epoch newest policy newest_policy (subst (WasSent s) got sent) stage (same_tag call.phase.tag tag c) in
+backed_after key s g z h inv grows p handle call live message sent new (unheard is) =
+    subst (λ (x : (Step Moving)). MoveBacked key z h x.state.phase x.state.stage) (sym is) (move_stays key s g z h call.phase call.stage grows (opened_epochs key s g inv) ((inv.moves p handle call live).backed))
+backed_after key s g z h inv grows p handle call live message sent new (was_current epoch own is) = subst (λ (x : (Step Moving)). MoveBacked key z h x.state.phase x.state.stage) (sym is) tt
+backed_after key s g z h inv grows p handle call live message sent new (was_stale epoch own is) = subst (λ (x : (Step Moving)). MoveBacked key z h x.state.phase x.state.stage) (sym is) tt
+backed_after key s g z h inv grows p handle call live message sent new (arrived tag at epoch old target frozen seeded stage got c is) = subst (λ (x : (Step Moving)). MoveBacked key z h x.state.phase x.state.stage) (sym is) tt
+backed_after key s g z h inv grows p handle call live message sent new (froze_first tag at epoch newest policy newest_policy stage got c apart is) =
+    let b = here_is key s g inv p handle call live tag at epoch newest policy newest_policy (subst (WasSent s) got sent) stage (same_tag call.phase.tag tag c) in
     let out = inv.openings.published epoch b.opened in
     let target : IsTargetOf key s g epoch (epoch_at newest newest_policy) = record { opened = b.opened; later = not_equal epoch newest b.within.0 apart; published = b.within.1; policy = b.latest_is } in
     subst (λ (x : (Step Moving)). MoveBacked key z h x.state.phase x.state.stage) (sym is)
@@ -151,35 +119,35 @@ backed_after key s g z h inv keys grows p handle call live message sent new (fro
   where
     none_of : (d : ℕ) → has no_centre d ≡ false
     none_of d = has-no_centre d
-backed_after key s g z h inv keys grows p handle call live message sent new (froze_one tag replica version mark value old target best stage got c is) =
-    let k : MoveBacked key s g call.phase (Freezing old target best) = subst (MoveBacked key s g call.phase) stage (inv.moves.backed p handle call live) in
+backed_after key s g z h inv grows p handle call live message sent new (froze_one tag replica version mark value old target best stage got c is) =
+    let k : MoveBacked key s g call.phase (Freezing old target best) = subst (MoveBacked key s g call.phase) stage ((inv.moves p handle call live).backed) in
     let b = better_some best version value in
     let out = inv.openings.published old.number k.0.opened in
     let f = found_frozen key s g inv p handle call live tag replica version mark value old target best b.0 (subst (WasSent s) got sent) stage c b.1 in
     subst (λ (x : (Step Moving)). MoveBacked key z h x.state.phase x.state.stage) (sym is)
     (subst (λ (x : Option Found). MoveBacked key z h (with_good call.phase replica) (Freezing old target x)) (sym b.1)
     (target_stays key s g z h old.number target grows k.0, k.1 ∙ sym (grows.policies old.number out.0 out.1), k.2, freezes_stay key s g z h (with_good call.phase replica) b.0 grows f))
-backed_after key s g z h inv keys grows p handle call live message sent new (froze_all tag replica version mark value old target best found stage got c quorum e is) =
-    let k : MoveBacked key s g call.phase (Freezing old target best) = subst (MoveBacked key s g call.phase) stage (inv.moves.backed p handle call live) in
+backed_after key s g z h inv grows p handle call live message sent new (froze_all tag replica version mark value old target best found stage got c quorum e is) =
+    let k : MoveBacked key s g call.phase (Freezing old target best) = subst (MoveBacked key s g call.phase) stage ((inv.moves p handle call live).backed) in
     let have : WasSent s (m.Have tag replica version mark value) = subst (WasSent s) got sent in
     let f = found_frozen key s g inv p handle call live tag replica version mark value old target best found have stage c e in
     let freeze = freeze_asked key s call old target best (answers_move key s g inv p handle call live (m.Have tag replica version mark value) have refl (counts_own call.phase tag replica c)) live.at_key stage in
     let set : IsFrozenSet key s g old.number (with_good call.phase replica).good found.stamp = frozen_now key s g inv call old (with_good call.phase replica).good (with_good call.phase replica) found freeze k.1 quorum f in
     subst (λ (x : (Step Moving)). MoveBacked key z h x.state.phase x.state.stage) (sym is)
     (seeds_stay key s g z h old.number target (with_good call.phase replica).good found.stamp grows (opened_epochs key s g inv) (record { target = k.0; frozen_set = set }), refl, λ d some. absurd (none_in d some))
-backed_after key s g z h inv keys grows p handle call live message sent new (seeded_next tag replica old target frozen seeded top_gone stage got c is) =
-    let k : MoveBacked key s g call.phase (Seeding old target frozen seeded top_gone) = subst (MoveBacked key s g call.phase) stage (inv.moves.backed p handle call live) in
+backed_after key s g z h inv grows p handle call live message sent new (seeded_next tag replica old target frozen seeded top_gone stage got c is) =
+    let k : MoveBacked key s g call.phase (Seeding old target frozen seeded top_gone) = subst (MoveBacked key s g call.phase) stage ((inv.moves p handle call live).backed) in
     let same = counts_own call.phase tag replica c in
     let said = yes_more s call.phase replica k.2 (subst (λ (x : Tag). WasSent s (m.Yes x replica)) (sym same) (subst (WasSent s) got sent)) in
     subst (λ (x : (Step Moving)). MoveBacked key z h x.state.phase x.state.stage) (sym is)
     (seeds_stay key s g z h old target frozen seeded grows (opened_epochs key s g inv) k.0, k.1, yes_stays key s g z h (with_good call.phase replica) grows said)
-backed_after key s g z h inv keys grows p handle call live message sent new (seeded_all tag replica old target frozen seeded top_gone stage got c quorum is) =
+backed_after key s g z h inv grows p handle call live message sent new (seeded_all tag replica old target frozen seeded top_gone stage got c quorum is) =
     let b = switching_now key s g inv p handle call live tag replica old target frozen seeded top_gone (subst (WasSent s) got sent) stage c quorum in
     let later = b.0.target.later in
     subst (λ (x : (Step Moving)). MoveBacked key z h x.state.phase x.state.stage) (sym is)
     (seeds_stay key s g z h old target frozen seeded grows (opened_epochs key s g inv) b.0, settled_stays key s g z h target.number seeded grows (omega arith, b.0.target.published) b.1)
-backed_after key s g z h inv keys grows p handle call live message sent new (was_refused tag replica epoch old target frozen seeded top_gone stage got c is) =
-    let k : MoveBacked key s g call.phase (Seeding old target frozen seeded top_gone) = subst (MoveBacked key s g call.phase) stage (inv.moves.backed p handle call live) in
+backed_after key s g z h inv grows p handle call live message sent new (was_refused tag replica epoch old target frozen seeded top_gone stage got c is) =
+    let k : MoveBacked key s g call.phase (Seeding old target frozen seeded top_gone) = subst (MoveBacked key s g call.phase) stage ((inv.moves p handle call live).backed) in
     subst (λ (x : (Step Moving)). MoveBacked key z h x.state.phase x.state.stage) (sym is)
     (seeds_stay key s g z h old target frozen seeded grows (opened_epochs key s g inv) k.0, k.1, yes_stays key s g z h call.phase grows k.2)
 

@@ -1,54 +1,46 @@
--- What a move rests on stays true.
-use Rattle.std.proofs.Common.{◌≡◌, ℕ, ◌≤◌, Bool, sym, ◌∙◌, subst, arith}
-use Rattle.std.specs.Prelude.{Option, Some, None, Contains}
-use Rattle.std.specs.List.{range_with_len}
-use Rattle.span_base.specs.DcSet.{has}
-use Rattle.span_base.specs.declared.ids.KeyId.{KeyId}
-use Rattle.span_base.specs.declared.dc_set.DcSet.{DcSet}
-use Rattle.span_base.specs.declared.policy.Policy.{Policy}
-use Rattle.span_base.specs.PolicyParts.{members_of, faults_of}
-use Rattle.ticket_rules.specs.declared.stamp.Stamp.{Stamp}
-use Rattle.ticket_rules.specs.Stamp.{IsAtMost}
+-- What was sent, known, settled or kept, and what a move rests on, stays so as the state grows.
+use Rattle.std.proofs.Common.{inl, inr, ℕ, List, ◌≡◌, ◌≤◌, Bool, sym, subst, arith, Contains, ◌∙◌, Option, Some, None}
+use Rattle.register_law.proofs.Words.{KeyId, Stamp, Message, Store, Ghost, Grows, IsKnown, WasSent, has, faults_of, members_of, Policy, latest, policy_of, HasMost, IsKept, IsSettled, both, is_at_most, version_before, range_with_len, DcSet, IsAtMost, Found, Phase, Epoch, Freezing, Seeding, Switching, FoundFrozen, FoundSettled, FreezesCounted, FrozenCounted, IsTargetOf, MoveBacked, SeedsBacked, WasAnswered, YesCounted, IsFrozenSet, MeetsAll, HereBacked, SwitchBacked, MoveStage as Stage, NotedLeg as Leg}
 use Rattle.wire_msg.specs.declared.message.Message.TheVariants as m
-use Rattle.call_phase.specs.declared.best.Found.{Found}
-use Rattle.call_phase.specs.declared.phase.Phase.{Phase}
-use Rattle.epoch_directory.specs.State.{latest}
-use Rattle.migration.specs.declared.stage.Epoch.{Epoch}
-use Rattle.migration.specs.declared.stage.Stage.{Stage}
-use Rattle.migration.specs.declared.stage.Stage.TheVariants.{Looking, Freezing, Seeding, Switching, Ended}
-use Rattle.world_core.specs.State.{Store, policy_of}
-use Rattle.register_law.specs.Ghost.{Ghost, Leg}
-use Rattle.register_law.specs.Seen.{IsSettled, IsKept, IsFrozenSet, MeetsAll, HasMost, Grows, both, version_before, is_at_most}
-use Rattle.register_law.specs.Sent.{SwitchBacked, HereBacked}
-use Rattle.register_law.specs.Legs.{FoundSettled, FoundFrozen}
-use Rattle.register_law.specs.Live.{IsTargetOf, FreezesCounted, FrozenCounted, WasAnswered, YesCounted, SeedsBacked, MoveBacked}
-use Rattle.register_law.proofs.Quorums.{count_mono, and_left, and_right, and_both}
-use Rattle.register_law.proofs.Chain.{at_most_test, at_most_trans}
-use Rattle.register_law.proofs.Stable.{sent_stays}
+use Rattle.migration.specs.declared.stage.Stage.TheVariants.{Looking, Ended}
+use Rattle.register_law.proofs.Quorums.{at_most_test, at_most_trans, count_mono, and_left, and_right, and_both}
+
+pub sent_stays : (key : KeyId) (s : Store) (g : Ghost) (z : Store) (h : Ghost) (message : Message) → Grows key s g z h → WasSent s message → WasSent z message
+sent_stays key s g z h message grows sent = (sent.0, grows.sent (record { to = sent.0; message = message }) sent.1)
+
+pub known_stays : (key : KeyId) (s : Store) (g : Ghost) (z : Store) (h : Ghost) (stamp : Stamp) (value : List ℕ) → Grows key s g z h → IsKnown key s stamp value → IsKnown key z stamp value
+known_stays key s g z h stamp value grows (inl zero) = inl zero
+known_stays key s g z h stamp value grows (inr stored) =
+    inr (record { tag = stored.tag; sent = sent_stays key s g z h (m.Store stored.tag key stamp value) grows stored.sent })
+
+-- ---- what is settled, or kept, in an epoch that was published stays so
 
 -- an epoch that is published
 abbrev pub IsOut : Store → ℕ → Type 0
 IsOut s e = (1 ≤ e) × (e ≤ latest s.directory)
 
-pub settled_stays : (key : KeyId) (s : Store) (g : Ghost) (z : Store) (h : Ghost) (e : ℕ) (stamp : Stamp) → Grows key s g z h → IsOut s e → IsSettled key s g e stamp → IsSettled key z h e stamp
-settled_stays key s g z h e stamp grows out k =
-    let p : policy_of z key e ≡ policy_of s key e = grows.policies e out.0 out.1 in
-    let w : ℕ → Bool = has k.member.write in
-    let more = count_mono (both w (λ d. is_at_most stamp (version_before key s g d e))) (both w (λ d. is_at_most stamp (version_before key z h d e)))
-    (λ d x. and_both (w d) (is_at_most stamp (version_before key z h d e)) (and_left (w d) (is_at_most stamp (version_before key s g d e)) x)
-    (at_most_trans stamp (version_before key s g d e) (version_before key z h d e) (and_right (w d) (is_at_most stamp (version_before key s g d e)) x)
-    (at_most_test (version_before key s g d e) (version_before key z h d e) (grows.before d e)))) (range_with_len 0 16) in
-    let most = k.settled in
-    let enough : HasMost (faults_of (policy_of s key e)) k.member.write (λ d. is_at_most stamp (version_before key z h d e)) = omega arith in
+pub settled_stays : (key : KeyId) (s : Store) (g : Ghost) (z : Store) (h : Ghost) (e : ℕ) (u : Stamp) → Grows key s g z h → IsOut s e → IsSettled key s g e u → IsSettled key z h e u
+settled_stays key s g z h e u grows out old =
+    let same : policy_of z key e ≡ policy_of s key e = grows.policies e out.0 out.1 in
+    let w : ℕ → Bool = has old.member.write in
+    let was : ℕ → Bool = λ d. is_at_most u (version_before key s g d e) in
+    let now : ℕ → Bool = λ d. is_at_most u (version_before key z h d e) in
+    let more = count_mono (both w was) (both w now)
+    (λ d k. and_both (w d) (now d) (and_left (w d) (was d) k) (at_most_trans u (version_before key s g d e) (version_before key z h d e) (and_right (w d) (was d) k) (at_most_test (version_before key s g d e) (version_before key z h d e) (grows.before d e))))
+    (range_with_len 0 16) in
+    let had = old.settled in
+    let has_most : HasMost (faults_of (policy_of s key e)) old.member.write now = omega arith in
     record {
-      member = k.member;
-      is_member = subst (λ (x : Policy). Contains (members_of x) k.member) (sym p) k.is_member;
-      settled = subst (λ (x : Policy). HasMost (faults_of x) k.member.write (λ d. is_at_most stamp (version_before key z h d e))) (sym p) enough;
+      member = old.member;
+      is_member = subst (λ (x : Policy). Contains (members_of x) old.member) (sym same) old.is_member;
+      settled = subst (λ (x : Policy). HasMost (faults_of x) old.member.write now) (sym same) has_most;
     }
 
-pub kept_stays : (key : KeyId) (s : Store) (g : Ghost) (z : Store) (h : Ghost) (stamp : Stamp) → Grows key s g z h → ((e : ℕ) → Contains g.opened e → IsOut s e) → IsKept key s g stamp → IsKept key z h stamp
-kept_stays key s g z h stamp grows out k =
-    record { epoch = k.epoch; opened = grows.opened k.epoch k.opened; settled = settled_stays key s g z h k.epoch stamp grows (out k.epoch k.opened) k.settled }
+pub kept_stays : (key : KeyId) (s : Store) (g : Ghost) (z : Store) (h : Ghost) (u : Stamp) → Grows key s g z h → ((e : ℕ) → Contains g.opened e → IsOut s e) → IsKept key s g u → IsKept key z h u
+kept_stays key s g z h u grows published old =
+    record { epoch = old.epoch; opened = grows.opened old.epoch old.opened; settled = settled_stays key s g z h old.epoch u grows (published old.epoch old.opened) old.settled }
+
+-- ---- what a move rests on stays true
 
 pub frozen_set_stays : (key : KeyId) (s : Store) (g : Ghost) (z : Store) (h : Ghost) (e : ℕ) (set : DcSet) (stamp : Stamp) → Grows key s g z h → IsOut s e → IsFrozenSet key s g e set stamp → IsFrozenSet key z h e set stamp
 frozen_set_stays key s g z h e set stamp grows out k = record {

@@ -1,28 +1,41 @@
--- What a move does with a message, whatever is enough for it.
-use Rattle.std.proofs.Common.{◌≡◌, ℕ, Bool, true, false, List, refl}
-use Rattle.std.specs.Prelude.{◌==◌, not, if◌then◌else◌, max, Option, Some, None}
-use Rattle.span_base.specs.declared.ids.DcId.{DcId}
-use Rattle.span_base.specs.declared.ids.KeyId.{KeyId}
-use Rattle.span_base.specs.declared.dc_set.DcSet.{DcSet}
-use Rattle.span_base.specs.declared.policy.Policy.{Policy}
-use Rattle.span_base.specs.DcSet.{has}
-use Rattle.ticket_rules.specs.declared.stamp.Stamp.{Stamp}
-use Rattle.wire_msg.specs.declared.tag.Tag.{Tag}
-use Rattle.wire_msg.specs.declared.message.Message.{Message}
+-- What a move does with a message; only an answer under its own tag counts.
+use Rattle.std.proofs.Common.{◌≡◌, Bool, true, false, refl, ◌&&◌, not, ℕ, List, sym, ap, ◌∙◌, subst, ◌==◌, if◌then◌else◌, max, Option, Some, None}
+use Rattle.register_law.proofs.Words.{has, DcId, tag_of, Message, Tag, counts, counts_without_replica, is_same_tag, Phase, is_counted, progress_after, takes_have, takes_yes, Progress, CallState, DcSet, KeyId, Policy, Stamp, Step, Reply, View, better, with_bad, with_good, Found, Moving, epoch_at, unchanged, Rule, Epoch, Freezing, Seeding, Switching, MoveStage as Stage}
 use Rattle.wire_msg.specs.declared.message.Message.TheVariants as m
-use Rattle.wire_msg.specs.Posts.{tag_of}
-use Rattle.wire_msg.specs.Outputs.{Step}
-use Rattle.call_phase.specs.declared.phase.Phase.{Phase}
-use Rattle.call_phase.specs.declared.best.Found.{Found}
-use Rattle.call_phase.specs.Best.{better}
-use Rattle.call_phase.specs.Counting.{is_same_tag, counts, counts_without_replica, with_good, with_bad}
+use Rattle.strong_proxy.specs.Counting.{takes_held, takes_gone, takes_here}
 use Rattle.call_phase.proofs.Tags.{same_tag}
-use Rattle.migration.specs.declared.stage.Epoch.{Epoch}
-use Rattle.migration.specs.declared.stage.Stage.{Stage}
-use Rattle.migration.specs.declared.stage.Stage.TheVariants.{Looking, Freezing, Seeding, Switching, Ended}
-use Rattle.migration.specs.Rule.{Rule}
-use Rattle.migration.specs.Move.{Moving, epoch_at, unchanged, waits, seeds, switches, freezes, looked, froze, seeded_one, refused_one, ends_at, ends_stale, ends_current, on_here, on_have, on_yes, on_gone, on_switched, step}
-use Rattle.register_law.proofs.Tagged.{first_of_four, counts_own}
+use Rattle.wire_msg.specs.declared.outputs.Reply.TheVariants as r
+use Rattle.migration.specs.declared.stage.Stage.TheVariants.{Looking}
+use Rattle.migration.specs.Move.{waits, seeds, switches, freezes, looked, froze, seeded_one, refused_one, ends_at, ends_stale, ends_current, on_here, on_have, on_yes, on_gone, on_switched, step}
+use Rattle.register_law.proofs.Quorums.{and_right}
+
+-- counting changes no tag
+pub counted_tag : (p : Progress) (message : Message) → (progress_after p message).phase.tag ≡ p.phase.tag
+counted_tag p (m.Have tag replica version mark value) = refl
+counted_tag p message = refl
+
+pub first_of_four : (a b c d : Bool) → (a && b && c && d) ≡ true → a ≡ true
+first_of_four true b c d h = refl
+first_of_four false b c d h = absurd (cc)
+
+-- an answer that counts has the call's own tag
+pub counts_own : (phase : Phase) (tag : Tag) (replica : DcId) → counts phase tag replica ≡ true → phase.tag ≡ tag
+counts_own phase tag replica h = same_tag phase.tag tag (first_of_four (is_same_tag phase.tag tag) (has phase.asked replica.0) (not (has phase.good replica.0)) (not (has phase.bad replica.0)) h)
+
+counts_tag : (takes : Bool) (phase : Phase) (tag : Tag) (replica : DcId) → (takes && counts phase tag replica) ≡ true → phase.tag ≡ tag
+counts_tag takes phase tag replica h =
+    same_tag phase.tag tag (first_of_four (is_same_tag phase.tag tag) (has phase.asked replica.0) (not (has phase.good replica.0)) (not (has phase.bad replica.0)) (and_right takes (counts phase tag replica) h))
+
+-- only a message with the call's own tag counts
+pub counted_is_own : (call : CallState) (message : Message) → is_counted call message ≡ true → call.progress.phase.tag ≡ tag_of message
+counted_is_own call (m.Have tag replica version mark value) h = counts_tag (takes_have call.work call.progress.stage) call.progress.phase tag replica h
+counted_is_own call (m.Yes tag replica) h = counts_tag (takes_yes call.work call.progress.stage) call.progress.phase tag replica h
+counted_is_own call (m.Held tag replica stamp) h = counts_tag (takes_held call.work call.progress.stage) call.progress.phase tag replica h
+counted_is_own call (m.Gone tag replica epoch) h = counts_tag (takes_gone call.progress.stage) call.progress.phase tag replica h
+counted_is_own call (m.Here tag key epoch policy latest_epoch latest_policy) h = same_tag call.progress.phase.tag tag (and_right (takes_here call.progress.stage) (counts_without_replica call.progress.phase tag) h)
+counted_is_own call _ h = absurd (cc)
+
+-- ---- what a move does with a message, whatever is enough for it
 
 -- what came of a message
 pub data MoveTook (rule : Rule) (call : Moving) (message : Message) (new : (Step Moving)) : Type 0 where
@@ -58,10 +71,7 @@ here_took rule call Looking tag key epoch newest policy newest_policy is =
     (λ c. either rule call message (epoch == newest) (ends_current call epoch) (freezes call (epoch_at epoch policy) (epoch_at newest newest_policy))
     (λ _. was_current epoch (same_tag call.phase.tag tag c) refl) (λ d. froze_first tag key epoch newest policy newest_policy is refl c d refl))
     (λ _. unheard refl)
-here_took rule call (Freezing old new best) tag key epoch newest policy newest_policy is = unheard refl
-here_took rule call (Seeding old new frozen seeded top_gone) tag key epoch newest policy newest_policy is = unheard refl
-here_took rule call (Switching old new frozen seeded) tag key epoch newest policy newest_policy is = unheard refl
-here_took rule call Ended tag key epoch newest policy newest_policy is = unheard refl
+here_took rule call stage tag key epoch newest policy newest_policy is = unheard refl
 
 -- once enough are frozen something was found
 seeds_took : (rule : Rule) (call : Moving) (tag : Tag) (replica : DcId) (version mark : Stamp) (value : List ℕ) (old target : Epoch) (best : Option Found) (o : Option Found) → call.stage ≡ Freezing old target best → counts call.phase tag replica ≡ true
@@ -78,10 +88,7 @@ have_took rule call (Freezing old new best) tag replica version mark value is =
     (seeds rule call old new (with_good call.phase replica).good (better best version value)) (waits call (with_good call.phase replica) (Freezing old new (better best version value)))
     (λ q. seeds_took rule call tag replica version mark value old new best (better best version value) is c q refl) (λ _. froze_one tag replica version mark value old new best is refl c refl))
     (λ _. unheard refl)
-have_took rule call Looking tag replica version mark value is = unheard refl
-have_took rule call (Seeding old new frozen seeded top_gone) tag replica version mark value is = unheard refl
-have_took rule call (Switching old new frozen seeded) tag replica version mark value is = unheard refl
-have_took rule call Ended tag replica version mark value is = unheard refl
+have_took rule call stage tag replica version mark value is = unheard refl
 
 yes_took : (rule : Rule) (call : Moving) (stage : Stage) (tag : Tag) (replica : DcId) → call.stage ≡ stage → MoveTook rule call (m.Yes tag replica) (on_yes rule call stage tag replica)
 yes_took rule call (Seeding old new frozen seeded top_gone) tag replica is =
@@ -90,10 +97,7 @@ yes_took rule call (Seeding old new frozen seeded top_gone) tag replica is =
     (λ c. either rule call message (rule.is_seeded new.policy (with_good call.phase replica)) (switches call old new frozen seeded) (waits call (with_good call.phase replica) (Seeding old new frozen seeded top_gone))
     (λ q. seeded_all tag replica old new frozen seeded top_gone is refl c q refl) (λ _. seeded_next tag replica old new frozen seeded top_gone is refl c refl))
     (λ _. unheard refl)
-yes_took rule call Looking tag replica is = unheard refl
-yes_took rule call (Freezing old new best) tag replica is = unheard refl
-yes_took rule call (Switching old new frozen seeded) tag replica is = unheard refl
-yes_took rule call Ended tag replica is = unheard refl
+yes_took rule call stage tag replica is = unheard refl
 
 gone_took : (rule : Rule) (call : Moving) (stage : Stage) (tag : Tag) (replica : DcId) (epoch : ℕ) → call.stage ≡ stage → MoveTook rule call (m.Gone tag replica epoch) (on_gone rule call stage tag replica epoch)
 gone_took rule call (Seeding old new frozen seeded top_gone) tag replica epoch is =
@@ -102,10 +106,7 @@ gone_took rule call (Seeding old new frozen seeded top_gone) tag replica epoch i
     (λ c. either rule call message (rule.is_lost new.policy (with_bad call.phase replica)) (ends_stale call (max top_gone epoch)) (waits call (with_bad call.phase replica) (Seeding old new frozen seeded (max top_gone epoch)))
     (λ _. was_stale (max top_gone epoch) (counts_own call.phase tag replica c) refl) (λ _. was_refused tag replica epoch old new frozen seeded top_gone is refl c refl))
     (λ _. unheard refl)
-gone_took rule call Looking tag replica epoch is = unheard refl
-gone_took rule call (Freezing old new best) tag replica epoch is = unheard refl
-gone_took rule call (Switching old new frozen seeded) tag replica epoch is = unheard refl
-gone_took rule call Ended tag replica epoch is = unheard refl
+gone_took rule call stage tag replica epoch is = unheard refl
 
 -- whether the directory switched
 told : (rule : Rule) (call : Moving) (done : Bool) (tag : Tag) (key : KeyId) (epoch old : ℕ) (target : Epoch) (frozen : DcSet) (seeded : Stamp) → call.stage ≡ Switching old target frozen seeded → counts_without_replica call.phase tag ≡ true
@@ -117,10 +118,7 @@ switched_took : (rule : Rule) (call : Moving) (stage : Stage) (tag : Tag) (key :
 switched_took rule call (Switching old new frozen seeded) tag key done epoch is =
     either rule call (m.Switched tag key done epoch) (counts_without_replica call.phase tag) (if done then ends_at call new else ends_stale call epoch) (unchanged call)
     (λ c. told rule call done tag key epoch old new frozen seeded is c) (λ _. unheard refl)
-switched_took rule call Looking tag key done epoch is = unheard refl
-switched_took rule call (Freezing old new best) tag key done epoch is = unheard refl
-switched_took rule call (Seeding old new frozen seeded top_gone) tag key done epoch is = unheard refl
-switched_took rule call Ended tag key done epoch is = unheard refl
+switched_took rule call stage tag key done epoch is = unheard refl
 
 pub move_took : (rule : Rule) (call : Moving) (message : Message) → MoveTook rule call message (step rule call message)
 unfolding step
@@ -130,3 +128,54 @@ move_took rule call (m.Yes tag replica) = yes_took rule call call.stage tag repl
 move_took rule call (m.Gone tag replica epoch) = gone_took rule call call.stage tag replica epoch refl
 move_took rule call (m.Switched tag key done epoch) = switched_took rule call call.stage tag key done epoch refl
 move_took rule call message = unheard refl
+
+-- how a move ends
+abbrev pub IsMoveEnd : Option Reply → Type 0
+IsMoveEnd None = Unit {0}
+IsMoveEnd (Some (r.At epoch)) = Unit {0}
+IsMoveEnd (Some (r.Current epoch)) = Unit {0}
+IsMoveEnd (Some (r.Stale epoch)) = Unit {0}
+IsMoveEnd (Some _) = ⊥
+
+-- what a move doesn't end with
+pub move_never : (o : Option Reply) (reply : Reply) (P : Type 0) → IsMoveEnd o → o ≡ Some reply → ((epoch : ℕ) → reply ≡ r.At epoch → P) → ((epoch : ℕ) → reply ≡ r.Current epoch → P) → ((epoch : ℕ) → reply ≡ r.Stale epoch → P) → P
+move_never None reply P m e f g z = absurd (cc)
+move_never (Some (r.At epoch)) reply P m e f g z = f epoch (cc)
+move_never (Some (r.Current epoch)) reply P m e f g z = g epoch (cc)
+move_never (Some (r.Stale epoch)) reply P m e f g z = z epoch (cc)
+move_never o reply P m e f g z = absurd m
+
+-- a move shows a view only where it arrives: its target's
+pub data MoveShows (call : Moving) (message : Message) (o : Option View) : Type 0 where
+  shows_none : o ≡ None → MoveShows call message o
+  shows_target : (tag : Tag) (key : KeyId) (epoch old : ℕ) (target : Epoch) (frozen : DcSet) (seeded : Stamp) → call.stage ≡ Switching old target frozen seeded → message ≡ m.Switched tag key true epoch → counts_without_replica call.phase tag ≡ true
+      → o ≡ Some (record { key = call.key; epoch = target.number; policy = target.policy }) → MoveShows call message o
+
+-- whatever a move does with a message
+pub record MoveMade (call : Moving) (message : Message) (new : Step Moving) : Type 0 where
+  pub key : new.state.key ≡ call.key
+  pub ticket : new.out.ticket ≡ None
+  pub end : IsMoveEnd new.out.end
+  pub own : (reply : Reply) → new.out.end ≡ Some reply → call.phase.tag ≡ tag_of message
+  pub shown : MoveShows call message new.out.view
+
+goes_on : (call : Moving) (message : Message) (new x : Step Moving) → new ≡ x → x.state.key ≡ call.key → x.out.ticket ≡ None → x.out.end ≡ None → x.out.view ≡ None → MoveMade call message new
+goes_on call message new x is key ticket end view =
+    subst (MoveMade call message) (sym is) (record { key = key; ticket = ticket; end = subst IsMoveEnd (sym end) tt; own = λ reply e. absurd (cc); shown = shows_none view })
+
+pub move_made : (rule : Rule) (call : Moving) (message : Message) (new : Step Moving) → MoveTook rule call message new → MoveMade call message new
+move_made rule call message new (unheard is) = goes_on call message new _ is refl refl refl refl
+move_made rule call message new (was_current epoch own is) = subst (MoveMade call message) (sym is) (record { key = refl; ticket = refl; end = tt; own = λ reply e. own; shown = shows_none refl })
+move_made rule call message new (froze_first tag key epoch newest policy newest_policy at got c d is) = goes_on call message new _ is refl refl refl refl
+move_made rule call message new (froze_one tag replica version mark value old target best at got c is) = goes_on call message new _ is refl refl refl refl
+move_made rule call message new (froze_all tag replica version mark value old target best found at got c q b is) = goes_on call message new _ is refl refl refl refl
+move_made rule call message new (seeded_next tag replica old target frozen seeded top_gone at got c is) = goes_on call message new _ is refl refl refl refl
+move_made rule call message new (seeded_all tag replica old target frozen seeded top_gone at got c q is) = goes_on call message new _ is refl refl refl refl
+move_made rule call message new (was_refused tag replica epoch old target frozen seeded top_gone at got c is) = goes_on call message new _ is refl refl refl refl
+move_made rule call message new (was_stale epoch own is) = subst (MoveMade call message) (sym is) (record { key = refl; ticket = refl; end = tt; own = λ reply e. own; shown = shows_none refl })
+move_made rule call message new (arrived tag key epoch old target frozen seeded at got c is) =
+    subst (MoveMade call message) (sym is)
+    (record { key = refl; ticket = refl; end = tt; own = λ reply e. same_tag call.phase.tag tag c ∙ sym (ap tag_of got); shown = shows_target tag key epoch old target frozen seeded at got c refl })
+
+pub made_by : (rule : Rule) (call : Moving) (message : Message) → MoveMade call message (step rule call message)
+made_by rule call message = move_made rule call message (step rule call message) (move_took rule call message)

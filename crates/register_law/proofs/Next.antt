@@ -1,25 +1,6 @@
 -- What each thing that a strong call does next rests on.
-use Rattle.std.proofs.Common.{◌≡◌, ℕ, ◌<◌, ◌≤◌, Bool, true, false, List, refl, subst, arith}
-use Rattle.std.specs.Prelude.{if◌then◌else◌, nat_lt, ◌==◌, Option, Some, None}
-use Rattle.std.specs.Ordering.{is_ge}
-use Rattle.std.proofs.lemmas.Grind.{common_steps}
-use Rattle.span_base.specs.declared.policy.Quorum.{Quorum}
-use Rattle.span_base.specs.PolicyParts.{member_of}
-use Rattle.ticket_rules.specs.declared.stamp.Stamp.{Stamp}
-use Rattle.ticket_rules.specs.Stamp.{stamp_cmp, stamp_zero}
-use Rattle.wire_msg.specs.declared.outputs.View.{View}
-use Rattle.call_phase.specs.declared.best.Found.{Found}
-use Rattle.call_phase.specs.Counting.{has_quorum, is_lost}
-use Rattle.strong_proxy.specs.declared.progress.Stage.{Stage}
-use Rattle.strong_proxy.specs.declared.progress.Stage.TheVariants.{First, Second, Looking, Ended}
-use Rattle.strong_proxy.specs.declared.progress.Leg.{Leg}
-use Rattle.strong_proxy.specs.declared.progress.Progress.{Progress}
-use Rattle.strong_proxy.specs.declared.state.Work.{Work}
-use Rattle.strong_proxy.specs.declared.state.Work.TheVariants.{ToRead, ToWrite}
-use Rattle.strong_proxy.specs.declared.state.CallState.{CallState}
-use Rattle.strong_proxy.specs.declared.next.Next.{Next}
-use Rattle.strong_proxy.specs.declared.next.Next.TheVariants.{Wait, Value, Repair, Store, Stored, Fenced, Unsure, Look, Moved, Outside, NumbersOut, Enter}
-use Rattle.strong_proxy.specs.Rule.{leg_under, decided, go_over, answer_or_repair, next_ticket, enter, verdict_at, best_stamp, next_of}
+use Rattle.std.proofs.Common.{◌≡◌, ℕ, ◌<◌, ◌≤◌, Bool, true, false, List, refl, subst, arith, if◌then◌else◌, nat_lt, ◌==◌, Option, Some, None}
+use Rattle.register_law.proofs.Words.{member_of, Quorum, stamp_cmp, stamp_zero, Stamp, View, has_quorum, is_lost, Found, answer_or_repair, best_stamp, decided, enter, go_over, leg_under, next_of, next_ticket, verdict_at, Next, Enter, Fenced, Look, Moved, NumbersOut, Outside, Repair, Stored, Unsure, Value, Wait, Leg, Progress, Stage, Ended, First, Looking, Second, CallState, ToRead, ToWrite, is_ge, common_steps, StrongWork as Work, StoreNext as Store}
 use Rattle.register_law.proofs.Basics.{less_is}
 
 -- a write stores only from its first phase, with a quorum of grants

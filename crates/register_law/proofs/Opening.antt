@@ -1,34 +1,12 @@
 -- Of the state that a header opens: nothing is sent, live or kept, and stamp zero is settled.
-use Rattle.std.proofs.Common.{◌≡◌, ℕ, ◌<◌, Bool, true, false, List, [], ◌∷◌, refl, sym, ap, subst, arith}
-use Rattle.std.specs.Prelude.{zero, suc, map, replicate, length, slice_get, slice_index, slice_index_or, ◌==◌, if◌then◌else◌, Option, None, Contains, option_and_then}
-use Rattle.std.specs.List.{range_with_len}
-use Rattle.std.proofs.lemmas.Grind.{common_steps}
-use Rattle.span_base.specs.declared.ids.KeyId.{KeyId}
-use Rattle.span_base.specs.declared.ids.SetId.{SetId}
-use Rattle.span_base.specs.DcSet.{has}
-use Rattle.span_base.specs.declared.policy.Quorum.{Quorum}
-use Rattle.span_base.specs.declared.policy.Policy.{Policy}
-use Rattle.span_base.specs.declared.policy.Policy.TheVariants.{Direct, Relay, Strong}
-use Rattle.span_base.specs.Policy.{IsSoundPolicy, IsQuorumPolicy}
-use Rattle.span_base.specs.PolicyParts.{members_of}
-use Rattle.ticket_rules.specs.declared.stamp.Stamp.{Stamp}
-use Rattle.ticket_rules.specs.Stamp.{stamp_zero}
-use Rattle.wire_msg.specs.declared.message.Message.{Message}
+use Rattle.std.proofs.Common.{◌≡◌, ℕ, ◌<◌, Bool, true, false, List, [], ◌∷◌, refl, sym, ap, subst, arith, zero, suc, map, replicate, length, slice_get, slice_index, slice_index_or, ◌==◌, if◌then◌else◌, Option, None, Contains, option_and_then}
+use Rattle.register_law.proofs.Words.{has, IsQuorumPolicy, members_of, KeyId, SetId, Policy, Direct, Relay, Quorum, stamp_zero, Stamp, Message, is_strong, no_policy, KeySet, item_at, item_for, Handle, IsStrongKey, IsHeader, Proxy, Replica, Store, kept_of, key_set, no_proxy, no_replica, opening, opening_proxy, opening_replica, policy_of, proxy_at, Header, LiveCall, Ghost, first_ghost, IsKept, IsSettled, WasSent, both, is_at_most, version_before, IsLiveAt, range_with_len, common_steps}
+use Rattle.span_base.specs.declared.policy.Policy.TheVariants.{Strong}
+use Rattle.span_base.specs.Policy.{IsSoundPolicy}
 use Rattle.wire_msg.specs.declared.message.Message.TheVariants as m
-use Rattle.slot_pool.specs.declared.handles.Handle.{Handle}
-use Rattle.slot_pool.specs.Slots.{new_slot, item_for, item_at}
+use Rattle.slot_pool.specs.Slots.{new_slot}
 use Rattle.replica_core.specs.Keeping as keeping
 use Rattle.replica_core.specs.Rule as replica
-use Rattle.epoch_directory.specs.State.{is_strong, no_policy}
-use Rattle.epoch_directory.specs.declared.table.KeySet.{KeySet}
-use Rattle.world_core.specs.declared.live.LiveCall.{LiveCall}
-use Rattle.world_core.specs.declared.event.Header.{Header}
-use Rattle.world_core.specs.State.{Store, Proxy, Replica, opening, opening_proxy, opening_replica, key_set, no_proxy, no_replica, proxy_at, kept_of, policy_of}
-use Rattle.world_core.specs.Run.{IsHeader}
-use Rattle.world_core.specs.Laws.{IsStrongKey}
-use Rattle.register_law.specs.Ghost.{Ghost, first_ghost}
-use Rattle.register_law.specs.Seen.{WasSent, IsKept, IsSettled, both, is_at_most, version_before}
-use Rattle.register_law.specs.Tags.{IsLiveAt}
 use Rattle.register_law.proofs.Quorums.{count_mono, and_both}
 
 -- nothing was sent

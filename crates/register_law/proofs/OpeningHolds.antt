@@ -1,35 +1,27 @@
--- The invariant holds of the state that a header opens.
-use Rattle.std.proofs.Common.{◌≡◌, inl, ℕ, ◌+◌, ◌<◌, List, [], ◌∷◌, ◌++◌, refl, sym, ap, ◌∙◌, subst, arith}
-use Rattle.std.specs.Prelude.{zero, suc, map, replicate, length, slice_index, slice_index_or, Contains}
-use Rattle.std.specs.List.{range_with_len}
-use Rattle.span_base.specs.declared.ids.KeyId.{KeyId}
-use Rattle.span_base.specs.declared.ids.DcId.{DcId}
-use Rattle.span_base.specs.declared.ids.SetId.{SetId}
-use Rattle.span_base.specs.DcSet.{has}
-use Rattle.span_base.specs.declared.policy.Policy.{Policy}
-use Rattle.span_base.specs.Policy.{IsQuorumPolicy}
-use Rattle.ticket_rules.specs.Stamp.{stamp_zero, IsAtMost}
-use Rattle.wire_msg.specs.declared.outputs.View.{View}
+-- The invariant holds in the state that a header opens.
+use Rattle.std.proofs.Common.{◌≡◌, ℕ, ◌<◌, refl, sym, ap, ◌∙◌, subst, inl, ◌+◌, List, [], ◌∷◌, ◌++◌, arith, zero, suc, map, length, replicate, slice_index, slice_index_or, Contains}
+use Rattle.register_law.proofs.Words.{KeyId, IsStrongKey, key_set, opening, Header, KeysAgree, IsQuorumPolicy, DcId, SetId, Policy, IsAtMost, stamp_zero, View, Kept, current_of, KeySet, Mark, IsHeader, Replica, no_proxy, no_replica, no_view, opening_proxy, opening_replica, opening_view, policy_of, proxy_at, replica_at, view_at, OpeningsAreBacked, first_ghost, Inv, IsSeat, ReplicasAreBacked, IsKept, IsKnown, range_with_len, NotedLeg as Leg}
 use Rattle.wire_msg.specs.declared.message.Message.TheVariants as m
-use Rattle.replica_core.specs.declared.kept.Kept.{Kept}
 use Rattle.replica_core.specs.Keeping as keeping
-use Rattle.epoch_directory.specs.State.{current_of}
-use Rattle.epoch_directory.specs.declared.table.KeySet.{KeySet}
-use Rattle.run_marks.specs.declared.mark.Mark.{Mark}
 use Rattle.run_marks.specs.declared.mark.Mark.TheVariants as mk
-use Rattle.world_core.specs.declared.event.Header.{Header}
-use Rattle.world_core.specs.State.{Replica, opening, opening_proxy, opening_replica, opening_view, key_set, no_proxy, no_replica, no_view, replica_at, proxy_at, view_at, policy_of}
-use Rattle.world_core.specs.Run.{IsHeader}
-use Rattle.world_core.specs.Laws.{IsStrongKey}
 use Rattle.world_core.specs.declared.live.LiveCall.TheVariants as live_call
-use Rattle.register_law.specs.Ghost.{Leg, first_ghost}
-use Rattle.register_law.specs.Seen.{IsKnown, IsKept}
-use Rattle.register_law.specs.Replicas.{IsSeat, ReplicasAreBacked}
-use Rattle.register_law.specs.Ends.{OpeningsAreBacked}
-use Rattle.register_law.specs.Invariant.{Inv}
-use Rattle.register_law.proofs.Growth.{at_most_itself}
 use Rattle.register_law.proofs.Opening.{nothing_sent, none_live, nothing_kept, policy_is, quorum_at_first, zero_kept}
 use Rattle.register_law.proofs.Basics.{mapped_length}
+use Rattle.register_law.proofs.Growth.{at_most_itself}
+
+pub replicated : (n x : ℕ) → length (replicate n x) ≡ n
+replicated zero x = refl
+replicated (suc n) x = ap suc (replicated n x)
+
+pub keys_agree_first : (header : Header) (key : KeyId) → IsStrongKey header key.0 → KeysAgree key (opening header)
+unfolding opening
+keys_agree_first header key k = record {
+  exists = subst (λ n. key.0 < n) (sym (replicated (length (map key_set header.keys)) 1 ∙ mapped_length key_set header.keys)) k.exists;
+  here_asked = λ tag at epoch policy newest newest_policy sent. absurd (nothing_sent header (m.Here tag at epoch policy newest newest_policy) sent);
+  switched_asked = λ tag at done epoch sent. absurd (nothing_sent header (m.Switched tag at done epoch) sent);
+}
+
+-- ---- the invariant holds of the state that a header opens
 
 length_is : {X : Type 0} → (n : ℕ) (x : X) → length (replicate n x) ≡ n
 length_is {X} zero x = refl
@@ -124,6 +116,7 @@ opening_openings header key h k = record {
 -- before anything happened
 pub opening_holds : (header : Header) (key : KeyId) → IsHeader header → IsStrongKey header key.0 → Inv key (opening header) first_ghost
 opening_holds header key h k = record {
+  keys = keys_agree_first header key k;
   tags = record {
     sent_numbered = λ message sent. absurd (nothing_sent header message sent);
     live_numbered = λ p handle call live. absurd (none_live header p handle call live);
@@ -140,23 +133,8 @@ opening_holds header key h k = record {
     begun_live = λ p handle call live _. absurd (none_live header p handle call live);
     begun_numbered = λ call some. absurd (cc);
   };
-  strong = record {
-    request = λ p handle call request live _ _ _. absurd (none_live header p handle (live_call.Strong call) live.live);
-    counted = λ p handle call live. absurd (none_live header p handle (live_call.Strong call) live.live);
-    within = λ p handle call d live _. absurd (none_live header p handle (live_call.Strong call) live.live);
-    policy = λ p handle call live. absurd (none_live header p handle (live_call.Strong call) live.live);
-    leg = λ p handle call live _. absurd (none_live header p handle (live_call.Strong call) live.live);
-    begun = λ p handle call b live _. absurd (none_live header p handle (live_call.Strong call) live.live);
-    repair = λ p handle call b live _. absurd (none_live header p handle (live_call.Strong call) live.live);
-    store = λ p handle call tag stamp value live _ _. absurd (none_live header p handle (live_call.Strong call) live.live);
-    epochs = λ p handle call tag stamp live _ _. absurd (none_live header p handle (live_call.Strong call) live.live);
-    ticket = λ p handle call live. absurd (none_live header p handle (live_call.Strong call) live.live);
-  };
-  moves = record {
-    request = λ p handle call request live _ _ _. absurd (none_live header p handle (live_call.StrongMove call) live.live);
-    within = λ p handle call d live _. absurd (none_live header p handle (live_call.StrongMove call) live.live);
-    backed = λ p handle call live. absurd (none_live header p handle (live_call.StrongMove call) live.live);
-  };
+  strong = λ p handle call live. absurd (none_live header p handle (live_call.Strong call) live.live);
+  moves = λ p handle call live. absurd (none_live header p handle (live_call.StrongMove call) live.live);
   messages = record {
     repair_known = λ tag epoch stamp value sent. absurd (nothing_sent header (m.Repair tag key epoch stamp value) sent);
     seed_known = λ tag epoch stamp value sent. absurd (nothing_sent header (m.Seed tag key epoch stamp value) sent);

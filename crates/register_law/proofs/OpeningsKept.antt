@@ -1,37 +1,17 @@
 -- Every event keeps what the openings of epochs and the messages of moves rest on.
-use Rattle.std.proofs.Common.{◌≡◌, inl, inr, ℕ, ◌<◌, Bool, true, false, List, [], ◌∷◌, refl, sym, ap, ◌∙◌, subst, arith}
-use Rattle.std.specs.Prelude.{◌==◌, if◌then◌else◌, Contains}
-use Rattle.span_base.specs.declared.ids.KeyId.{KeyId}
-use Rattle.span_base.specs.declared.policy.Policy.{Policy}
-use Rattle.ticket_rules.specs.declared.stamp.Stamp.{Stamp}
-use Rattle.wire_msg.specs.declared.tag.Tag.{Tag}
-use Rattle.wire_msg.specs.declared.message.Message.{Message}
+use Rattle.std.proofs.Common.{◌≡◌, inl, inr, ℕ, ◌<◌, Bool, true, false, List, [], ◌∷◌, refl, sym, ap, ◌∙◌, subst, arith, ◌==◌, if◌then◌else◌, Contains, ◌⊎◌}
+use Rattle.register_law.proofs.Words.{KeyId, Policy, Stamp, Message, Tag, State, current_of, Store, policy_of, proxy_at, view_at, Happening, Happened, IsChain, IsNewest, OpeningsAreBacked, Ghost, noted_of, Inv, Grows, IsKnown, WasSent, HereBacked, SwitchBacked, IsSamePoint, KeysAgree, among, opened_after}
 use Rattle.wire_msg.specs.declared.message.Message.TheVariants as m
-use Rattle.epoch_directory.specs.State.{State, current_of}
-use Rattle.register_order.proofs.Members.{among}
-use Rattle.world_core.specs.State.{Store, proxy_at, view_at, policy_of}
-use Rattle.world_core.specs.Step.{Happening}
-use Rattle.register_law.specs.Ghost.{Ghost, noted_of, opened_after}
-use Rattle.register_law.specs.Seen.{WasSent, IsKnown, Grows}
-use Rattle.register_law.specs.Tags.{IsSamePoint}
-use Rattle.register_law.specs.Sent.{HereBacked, SwitchBacked}
-use Rattle.register_law.specs.Ends.{IsChain, IsNewest, OpeningsAreBacked}
-use Rattle.register_law.specs.Invariant.{Inv}
-use Rattle.register_law.specs.Cases.{Happened}
-use Rattle.register_law.proofs.Stable.{sent_stays, known_stays}
-use Rattle.register_law.proofs.OpeningsAsked.{KeysAgree}
-use Rattle.register_law.proofs.OpeningsAgree.{some_published}
-use Rattle.register_law.proofs.OpeningsTold.{told_now, here_now, switched_now, SwitchedNow}
-use Rattle.register_law.proofs.OpeningsCurrent.{can_is, CurrentAfter, same_current, switched, current_after, done_is_current}
-use Rattle.register_law.proofs.OpeningsPolicies.{quorums_kept}
+use Rattle.register_law.proofs.MovesStable.{sent_stays, known_stays, IsOut, here_stays, switch_stays}
+use Rattle.register_law.proofs.OpeningsTold.{some_published, told_now, here_now, switched_now, SwitchedNow}
+use Rattle.register_law.proofs.OpeningsCurrent.{can_is, CurrentAfter, same_current, switched, current_after, done_is_current, quorums_kept}
 use Rattle.register_law.proofs.OpeningsPosts.{posted_carries, posted_fresh}
-use Rattle.register_law.proofs.OpeningsViews.{views_after_event, as_many_proxies, view_now}
-use Rattle.register_law.proofs.OpeningsShown.{view_stays}
-use Rattle.register_law.proofs.MovesLive.{posted, SentAfter, was_sent, was_posted, sent_after}
-use Rattle.register_law.proofs.MovesStable.{IsOut, here_stays, switch_stays}
-use Rattle.register_law.proofs.MovesFresh.{grows_by}
-use Rattle.register_law.proofs.MovesKeys.{apart_is}
-use Rattle.register_law.proofs.Basics.{equal_is}
+use Rattle.register_law.proofs.ReplicasKept.{views_after_event}
+use Rattle.register_law.proofs.OpeningsShown.{view_now, view_stays}
+use Rattle.register_law.proofs.TagsCalls.{proxies_stay}
+use Rattle.register_law.proofs.Basics.{WasPosted, apart_is, equal_is}
+use Rattle.register_law.proofs.MovesKept.{posted}
+use Rattle.register_law.proofs.Growth.{grows_by}
 
 -- the current epoch is one that has been current
 newest_opened : (epoch : ℕ) (opened : List ℕ) → IsNewest epoch opened → Contains opened epoch
@@ -85,25 +65,25 @@ published_after key s g h inv is (switched tag closing opening sent can now) fal
     ]
 
 -- what the openings of epochs rest on
-pub openings_kept : (key : KeyId) (s : Store) (g : Ghost) (h : Happening) → Inv key s g → KeysAgree key s → Happened s h → OpeningsAreBacked key h.store (noted_of key s h g)
-openings_kept key s g h inv keys is = record {
+pub openings_kept : (key : KeyId) (s : Store) (g : Ghost) (h : Happening) → Inv key s g → Happened s h → OpeningsAreBacked key h.store (noted_of key s h g)
+openings_kept key s g h inv is = record {
   chain = chain_after key s g h inv is (current_after key s h is) (current_of h.store.directory key == current_of s.directory key) refl;
   newest = newest_after (current_of s.directory key) (current_of h.store.directory key) g.opened (current_of h.store.directory key == current_of s.directory key) refl inv.openings.newest;
   published = published_after key s g h inv is (current_after key s h is) (current_of h.store.directory key == current_of s.directory key) refl;
   view_opened = λ p lt.
-      let same = as_many_proxies s h is in
-      let now = view_now key s g h inv keys p (omega arith) (views_after_event s h is p) in
+      let same = proxies_stay s h is in
+      let now = view_now key s g h inv p (omega arith) (views_after_event s h is p) in
       let then_is = view_stays key s g h.store (noted_of key s h g) (view_at (proxy_at h.store p).views key) (grows_by key s g h is inv) inv.openings.published now in
       (then_is.opened, then_is.policy);
   policies_quorum = quorums_kept key s h is inv.openings.policies_quorum (some_published key s g inv.openings);
 }
 
 -- what the directory told before
-pub here_kept : (key : KeyId) (s : Store) (g : Ghost) (h : Happening) → Inv key s g → KeysAgree key s → Happened s h → (tag : Tag) (epoch : ℕ) (policy : Policy) (newest : ℕ) (newest_policy : Policy)
-    → SentAfter s h (m.Here tag key epoch policy newest newest_policy) → HereBacked key h.store (noted_of key s h g) epoch policy newest newest_policy
-here_kept key s g h inv keys is tag epoch policy newest newest_policy (was_sent sent) =
+pub here_kept : (key : KeyId) (s : Store) (g : Ghost) (h : Happening) → Inv key s g → Happened s h → (tag : Tag) (epoch : ℕ) (policy : Policy) (newest : ℕ) (newest_policy : Policy)
+    → WasSent s (m.Here tag key epoch policy newest newest_policy) ⊎ WasPosted h (m.Here tag key epoch policy newest newest_policy) → HereBacked key h.store (noted_of key s h g) epoch policy newest newest_policy
+here_kept key s g h inv is tag epoch policy newest newest_policy (inl sent) =
     here_stays key s g h.store (noted_of key s h g) epoch newest policy newest_policy (grows_by key s g h is inv) inv.openings.published (inv.messages.here_opened tag epoch policy newest newest_policy sent)
-here_kept key s g h inv keys is tag epoch policy newest newest_policy (was_posted whom c) =
+here_kept key s g h inv is tag epoch policy newest newest_policy (inr (whom, c)) =
     let message : Message = m.Here tag key epoch policy newest newest_policy in
     let now = here_now s h tag key epoch policy newest newest_policy (told_now s h whom message tt (posted s h is (record { to = whom; message = message }) c)) in
     let opened : Contains g.opened epoch = subst (Contains g.opened) (sym now.epoch_is) (current_opened key s g inv.openings) in
@@ -117,17 +97,17 @@ here_kept key s g h inv keys is tag epoch policy newest newest_policy (was_poste
       latest_is = now.newest_policy_is ∙ ap (policy_of s key) (sym now.newest_is);
     })
 
-pub seed_kept : (key : KeyId) (s : Store) (g : Ghost) (h : Happening) → Inv key s g → KeysAgree key s → Happened s h → (tag : Tag) (epoch : ℕ) (stamp : Stamp) (value : List ℕ) → SentAfter s h (m.Seed tag key epoch stamp value) → IsKnown key h.store stamp value
-seed_kept key s g h inv keys is tag epoch stamp value (was_sent sent) = known_stays key s g h.store (noted_of key s h g) stamp value (grows_by key s g h is inv) (inv.messages.seed_known tag epoch stamp value sent)
-seed_kept key s g h inv keys is tag epoch stamp value (was_posted whom c) =
+pub seed_kept : (key : KeyId) (s : Store) (g : Ghost) (h : Happening) → Inv key s g → Happened s h → (tag : Tag) (epoch : ℕ) (stamp : Stamp) (value : List ℕ) → WasSent s (m.Seed tag key epoch stamp value) ⊎ WasPosted h (m.Seed tag key epoch stamp value) → IsKnown key h.store stamp value
+seed_kept key s g h inv is tag epoch stamp value (inl sent) = known_stays key s g h.store (noted_of key s h g) stamp value (grows_by key s g h is inv) (inv.messages.seed_known tag epoch stamp value sent)
+seed_kept key s g h inv is tag epoch stamp value (inr (whom, c)) =
     let message : Message = m.Seed tag key epoch stamp value in
-    known_stays key s g h.store (noted_of key s h g) stamp value (grows_by key s g h is inv) (posted_carries key s g h inv keys whom message (posted s h is (record { to = whom; message = message }) c) refl)
+    known_stays key s g h.store (noted_of key s h g) stamp value (grows_by key s g h is inv) (posted_carries key s g h inv whom message (posted s h is (record { to = whom; message = message }) c) refl)
 
-pub switch_kept : (key : KeyId) (s : Store) (g : Ghost) (h : Happening) → Inv key s g → KeysAgree key s → Happened s h → (tag : Tag) (old new : ℕ) → SentAfter s h (m.Switch tag key old new) → SwitchBacked key h.store (noted_of key s h g) old new
-switch_kept key s g h inv keys is tag old new (was_sent sent) = switch_stays key s g h.store (noted_of key s h g) old new (grows_by key s g h is inv) inv.openings.published (inv.messages.switch_sent tag old new sent)
-switch_kept key s g h inv keys is tag old new (was_posted whom c) =
+pub switch_kept : (key : KeyId) (s : Store) (g : Ghost) (h : Happening) → Inv key s g → Happened s h → (tag : Tag) (old new : ℕ) → WasSent s (m.Switch tag key old new) ⊎ WasPosted h (m.Switch tag key old new) → SwitchBacked key h.store (noted_of key s h g) old new
+switch_kept key s g h inv is tag old new (inl sent) = switch_stays key s g h.store (noted_of key s h g) old new (grows_by key s g h is inv) inv.openings.published (inv.messages.switch_sent tag old new sent)
+switch_kept key s g h inv is tag old new (inr (whom, c)) =
     let message : Message = m.Switch tag key old new in
-    switch_stays key s g h.store (noted_of key s h g) old new (grows_by key s g h is inv) inv.openings.published (posted_carries key s g h inv keys whom message (posted s h is (record { to = whom; message = message }) c) refl)
+    switch_stays key s g h.store (noted_of key s h g) old new (grows_by key s g h is inv) inv.openings.published (posted_carries key s g h inv whom message (posted s h is (record { to = whom; message = message }) c) refl)
 
 -- an epoch that is current after an event has been current
 opened_now : (old new : ℕ) (opened : List ℕ) (b : Bool) → (new == old) ≡ b → old < new → Contains (if b then opened else new ∷ opened) new
@@ -150,33 +130,18 @@ same_point : (tag : Tag) → IsSamePoint tag tag
 same_point tag = record { call = refl; phase = refl }
 
 -- a Switch that is done has opened its epoch
-pub switched_kept : (key : KeyId) (s : Store) (g : Ghost) (h : Happening) → Inv key s g → KeysAgree key s → Happened s h → (tag : Tag) (old new epoch : ℕ) → SentAfter s h (m.Switch tag key old new) → SentAfter s h (m.Switched tag key true epoch) → Contains (noted_of key s h g).opened new
-switched_kept key s g h inv keys is tag old new epoch (was_sent switch) (was_sent told) = (grows_by key s g h is inv).opened new (inv.messages.switched_opened tag old new epoch switch told)
-switched_kept key s g h inv keys is tag old new epoch (was_posted whom c) (was_sent told) =
+pub switched_kept : (key : KeyId) (s : Store) (g : Ghost) (h : Happening) → Inv key s g → Happened s h → (tag : Tag) (old new epoch : ℕ) → WasSent s (m.Switch tag key old new) ⊎ WasPosted h (m.Switch tag key old new) → WasSent s (m.Switched tag key true epoch) ⊎ WasPosted h (m.Switched tag key true epoch) → Contains (noted_of key s h g).opened new
+switched_kept key s g h inv is tag old new epoch (inl switch) (inl told) = (grows_by key s g h is inv).opened new (inv.messages.switched_opened tag old new epoch switch told)
+switched_kept key s g h inv is tag old new epoch (inr (whom, c)) (inl told) =
     let message : Message = m.Switch tag key old new in
     absurd (posted_fresh key s g h inv whom message (posted s h is (record { to = whom; message = message }) c) refl tt (m.Switched tag key true epoch) told (same_point tag))
-switched_kept key s g h inv keys is tag old new epoch (was_sent switch) (was_posted whom c) =
+switched_kept key s g h inv is tag old new epoch (inl switch) (inr (whom, c)) =
     let message : Message = m.Switched tag key true epoch in
     let now = switched_now s h tag key true epoch (told_now s h whom message tt (posted s h is (record { to = whom; message = message }) c)) in
     let one : m.Switch tag key old new ≡ m.Switch tag key now.closing now.opening = inv.requests.one_request (m.Switch tag key old new) (m.Switch tag key now.closing now.opening) switch now.asked refl refl (same_point tag) in
-    subst (Contains (opened_after key s h.store g.opened)) (sym (same_opening tag tag key key old new now.closing now.opening one)) (done_opens key s g h keys tag now)
-switched_kept key s g h inv keys is tag old new epoch (was_posted whom c) (was_posted to_whom d) =
+    subst (Contains (opened_after key s h.store g.opened)) (sym (same_opening tag tag key key old new now.closing now.opening one)) (done_opens key s g h inv.keys tag now)
+switched_kept key s g h inv is tag old new epoch (inr (whom, c)) (inr (to_whom, d)) =
     let switch : Message = m.Switch tag key old new in
     let message : Message = m.Switched tag key true epoch in
     let now = switched_now s h tag key true epoch (told_now s h to_whom message tt (posted s h is (record { to = to_whom; message = message }) d)) in
     absurd (posted_fresh key s g h inv whom switch (posted s h is (record { to = whom; message = switch }) c) refl tt (m.Switch tag key now.closing now.opening) now.asked (same_point tag))
-
--- what is said of a move's messages
-pub record MoveMessages (key : KeyId) (z : Store) (h : Ghost) : Type 0 where
-  pub seed_known : (tag : Tag) (epoch : ℕ) (stamp : Stamp) (value : List ℕ) → WasSent z (m.Seed tag key epoch stamp value) → IsKnown key z stamp value
-  pub here_opened : (tag : Tag) (epoch : ℕ) (policy : Policy) (newest : ℕ) (newest_policy : Policy) → WasSent z (m.Here tag key epoch policy newest newest_policy) → HereBacked key z h epoch policy newest newest_policy
-  pub switch_sent : (tag : Tag) (old new : ℕ) → WasSent z (m.Switch tag key old new) → SwitchBacked key z h old new
-  pub switched_opened : (tag : Tag) (old new epoch : ℕ) → WasSent z (m.Switch tag key old new) → WasSent z (m.Switched tag key true epoch) → Contains h.opened new
-
-pub move_messages_kept : (key : KeyId) (s : Store) (g : Ghost) (h : Happening) → Inv key s g → KeysAgree key s → Happened s h → MoveMessages key h.store (noted_of key s h g)
-move_messages_kept key s g h inv keys is = record {
-  seed_known = λ tag epoch stamp value sent. seed_kept key s g h inv keys is tag epoch stamp value (sent_after s h is (m.Seed tag key epoch stamp value) sent);
-  here_opened = λ tag epoch policy newest newest_policy sent. here_kept key s g h inv keys is tag epoch policy newest newest_policy (sent_after s h is (m.Here tag key epoch policy newest newest_policy) sent);
-  switch_sent = λ tag old new sent. switch_kept key s g h inv keys is tag old new (sent_after s h is (m.Switch tag key old new) sent);
-  switched_opened = λ tag old new epoch switch told. switched_kept key s g h inv keys is tag old new epoch (sent_after s h is (m.Switch tag key old new) switch) (sent_after s h is (m.Switched tag key true epoch) told);
-}

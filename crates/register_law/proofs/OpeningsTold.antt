@@ -1,35 +1,15 @@
--- What the directory tells at an event answers a request of the same key.
-use Rattle.std.proofs.Common.{◌≡◌, ℕ, Bool, refl, sym, ap, ◌∙◌, subst}
-use Rattle.std.specs.Prelude.{None}
-use Rattle.span_base.specs.declared.ids.KeyId.{KeyId}
-use Rattle.span_base.specs.declared.policy.Policy.{Policy}
-use Rattle.wire_msg.specs.declared.tag.Tag.{Tag}
-use Rattle.wire_msg.specs.declared.actor.Actor.{Actor}
-use Rattle.wire_msg.specs.declared.message.Message.{Message}
+-- What the directory tells at an event answers a request of the same key, and so after every event.
+use Rattle.std.proofs.Common.{◌≡◌, ℕ, Bool, refl, sym, ap, ◌∙◌, subst, ◌≤◌, true, List, [], ◌∷◌, arith, None, Contains, inr, inl, ◌⊎◌}
+use Rattle.register_law.proofs.Words.{KeyId, Policy, Actor, Message, Tag, current_of, latest, can_switch, first_tag, ticket_of, Store, policy_of, proxy_at, replica_at, view_at, Happening, is_strong_key, next_call, WasSent, request_key, Happened, IsNewest, OpeningsAreBacked, Ghost, noted_of, Inv, KeysAgree, SwitchAsked}
 use Rattle.wire_msg.specs.declared.actor.Actor.TheVariants as to
 use Rattle.wire_msg.specs.declared.message.Message.TheVariants as m
-use Rattle.epoch_directory.specs.State.{State, latest, current_of}
-use Rattle.epoch_directory.specs.Step.{step, here_of, switched_of, can_switch}
-use Rattle.world_core.specs.State.{Store, replica_at, proxy_at, view_at, policy_of}
-use Rattle.world_core.specs.Starting.{first_tag, ticket_of}
-use Rattle.world_core.specs.Step.{Happening, is_strong_key}
-use Rattle.register_law.specs.Seen.{WasSent}
-use Rattle.register_law.specs.Tags.{request_key}
-use Rattle.register_law.specs.Cases.{next_call}
-use Rattle.register_law.proofs.MovesLive.{Posted, by_start, by_replica, by_directory, by_call}
-use Rattle.register_law.proofs.CallsEach.{Each, each_none, each_one}
-use Rattle.register_law.proofs.MovesTakes.{take_own, opened_own, IsReplicaPost, IsAnswer, answers_it, passes_on, replica_posts}
-
--- what the directory puts out for a message
-pub data IsDirectoryPost (state : State) (from message : Message) : Type 0 where
-  tells_here : (tag : Tag) (key : KeyId) → from ≡ m.Lookup tag key → message ≡ here_of state tag key → IsDirectoryPost state from message
-  tells_switched : (tag : Tag) (key : KeyId) (closing opening : ℕ) → from ≡ m.Switch tag key closing opening → message ≡ switched_of state tag key closing opening → IsDirectoryPost state from message
-
-pub directory_posts : (state : State) (message : Message) → Each (IsDirectoryPost state message) (step state message).out.posts
-directory_posts state (m.Lookup tag key) = each_one (IsDirectoryPost state (m.Lookup tag key)) (record { to = to.Proxy tag.call.proxy; message = here_of state tag key }) (tells_here tag key refl refl)
-directory_posts state (m.Switch tag key closing opening) =
-    each_one (IsDirectoryPost state (m.Switch tag key closing opening)) (record { to = to.Proxy tag.call.proxy; message = switched_of state tag key closing opening }) (tells_switched tag key closing opening refl refl)
-directory_posts state message = each_none (IsDirectoryPost state message)
+use Rattle.epoch_directory.specs.Step.{step}
+use Rattle.register_law.proofs.Basics.{WasPosted, sent_cases}
+use Rattle.register_law.proofs.MovesKept.{Posted, by_start, by_replica, by_directory, by_call, posted, take_own, opened_own}
+use Rattle.register_law.proofs.TagsSent.{IsReplicaPost, answers_it, passes_on, IsReplicaAnswer, replica_posts, IsDirectoryPost, tells_here, tells_switched, directory_posts}
+use Rattle.register_law.proofs.MovesStable.{sent_stays}
+use Rattle.register_law.proofs.OpeningsCurrent.{keys_stay, quorum_is_strong}
+use Rattle.register_law.proofs.Growth.{grows_by}
 
 -- a message that only the directory sends
 abbrev pub IsTold : Message → Type 0
@@ -42,7 +22,7 @@ told_is_no_request (m.Here tag key epoch policy newest newest_policy) is = refl
 told_is_no_request (m.Switched tag key done epoch) is = refl
 told_is_no_request _ is = absurd is
 
-told_is_no_answer : (message : Message) → IsTold message → IsAnswer message → ⊥
+told_is_no_answer : (message : Message) → IsTold message → IsReplicaAnswer message → ⊥
 told_is_no_answer (m.Here tag key epoch policy newest newest_policy) is answer = answer
 told_is_no_answer (m.Switched tag key done epoch) is answer = answer
 told_is_no_answer _ is answer = absurd is
@@ -61,7 +41,7 @@ told_now s h whom message is (by_start p at work st c) =
 told_now s h whom message is (by_replica d from sent c) = told (replica_posts (replica_at s d).state from (record { to = whom; message = message }) c)
   where
     told : IsReplicaPost from message → ToldNow s h message
-    told (answers_it answer) = absurd (told_is_no_answer message is answer)
+    told (answers_it _ _ answer) = absurd (told_is_no_answer message is answer)
     told (passes_on tag at stamp onward none value e f) = absurd (let k = sym (told_is_no_request message is) ∙ ap request_key f in cc)
 told_now s h whom message is (by_directory from sent directory_is c) = record { from = from; sent = (to.Directory, sent); directory_is = directory_is; told = directory_posts s.directory from (record { to = whom; message = message }) c }
 told_now s h whom message is (by_call p from old ct c) =
@@ -120,3 +100,38 @@ switched_now s h tag at done epoch t = by t.told
           directory_is = subst (λ (x : KeyId). h.store.directory ≡ (step s.directory (m.Switch tag x closing opening)).state) at_is (t.directory_is ∙ ap (λ (x : Message). (step s.directory x).state) from);
           done_is = subst (λ (x : KeyId). done ≡ can_switch s.directory x closing opening) at_is done_is;
         }
+
+-- ---- what the directory tells still answers a request of the same key after every event
+
+-- some epoch is published
+pub some_published : (key : KeyId) (s : Store) (g : Ghost) → OpeningsAreBacked key s g → 1 ≤ latest s.directory
+some_published key s g o = by g.opened refl o.newest
+  where
+    by : (opened : List ℕ) → g.opened ≡ opened → IsNewest (current_of s.directory key) opened → 1 ≤ latest s.directory
+    by [] is newest = absurd newest
+    by (e ∷ rest) is newest = let out = o.published e (subst (λ (x : List ℕ). Contains x e) (sym is) (0, omega arith, refl)) in let a = out.0 in let b = out.1 in omega arith
+
+pub key_is_strong : (key : KeyId) (s : Store) (g : Ghost) → OpeningsAreBacked key s g → is_strong_key s key ≡ true
+key_is_strong key s g o = quorum_is_strong (policy_of s key 1) (o.policies_quorum 1 (omega arith) (some_published key s g o))
+
+pub keys_agree : (key : KeyId) (s : Store) (g : Ghost) (h : Happening) → Inv key s g → Happened s h → KeysAgree key h.store
+keys_agree key s g h inv is = record {
+  exists = let same = keys_stay s h is in let was = inv.keys.exists in omega arith;
+  here_asked = λ tag at epoch policy newest newest_policy sent. here tag at epoch policy newest newest_policy (sent_cases s h (m.Here tag at epoch policy newest newest_policy) is sent);
+  switched_asked = λ tag at done epoch sent. told_switch tag at done epoch (sent_cases s h (m.Switched tag at done epoch) is sent);
+}
+  where
+    here : (tag : Tag) (at : KeyId) (epoch : ℕ) (policy : Policy) (newest : ℕ) (newest_policy : Policy) → WasSent s (m.Here tag at epoch policy newest newest_policy) ⊎ WasPosted h (m.Here tag at epoch policy newest newest_policy) → WasSent h.store (m.Lookup tag at)
+    here tag at epoch policy newest newest_policy (inl sent) = sent_stays key s g h.store (noted_of key s h g) (m.Lookup tag at) (grows_by key s g h is inv) (inv.keys.here_asked tag at epoch policy newest newest_policy sent)
+    here tag at epoch policy newest newest_policy (inr (whom, c)) =
+        let message : Message = m.Here tag at epoch policy newest newest_policy in
+        sent_stays key s g h.store (noted_of key s h g) (m.Lookup tag at) (grows_by key s g h is inv) (here_now s h tag at epoch policy newest newest_policy (told_now s h whom message tt (posted s h is (record { to = whom; message = message }) c))).asked
+
+    told_switch : (tag : Tag) (at : KeyId) (done : Bool) (epoch : ℕ) → WasSent s (m.Switched tag at done epoch) ⊎ WasPosted h (m.Switched tag at done epoch) → SwitchAsked h.store tag at
+    told_switch tag at done epoch (inl sent) =
+        let a = inv.keys.switched_asked tag at done epoch sent in
+        record { old = a.old; new = a.new; sent = sent_stays key s g h.store (noted_of key s h g) (m.Switch tag at a.old a.new) (grows_by key s g h is inv) a.sent }
+    told_switch tag at done epoch (inr (whom, c)) =
+        let message : Message = m.Switched tag at done epoch in
+        let a = switched_now s h tag at done epoch (told_now s h whom message tt (posted s h is (record { to = whom; message = message }) c)) in
+        record { old = a.closing; new = a.opening; sent = sent_stays key s g h.store (noted_of key s h g) (m.Switch tag at a.closing a.opening) (grows_by key s g h is inv) a.asked }

@@ -1,12 +1,9 @@
--- How many replicas two sets must share.
-use Rattle.std.proofs.Common.{◌≡◌, ℕ, ◌+◌, ◌*◌, ◌≤◌, ◌<◌, Bool, true, false, cond, List, [], ◌∷◌, refl, sym, subst, arith, ◌⊎◌, inl, inr, ◌∙◌, ◌≢◌}
-use Rattle.std.specs.Prelude.{◌&&◌, ◌||◌, length, ◌==◌}
-use Rattle.std.specs.List.{filter, range_with_len}
-use Rattle.register_law.specs.Seen.{count_of, both, Within}
-use Rattle.span_base.specs.declared.dc_set.DcSet.{DcSet}
-use Rattle.span_base.specs.DcSet.{has, insert}
-use Rattle.span_base.proofs.Sets.{has-insert_other, has-insert_same}
-use Rattle.std.proofs.lemmas.Grind.{common_steps}
+-- How many replicas two sets must share, and the quorums of a sound policy do; so what is settled in an epoch is settled in each later one.
+use Rattle.std.proofs.Common.{◌≡◌, ℕ, ◌+◌, ◌*◌, ◌≤◌, ◌<◌, Bool, true, false, cond, List, [], ◌∷◌, refl, sym, subst, arith, ◌⊎◌, inl, inr, ◌∙◌, ◌≢◌, ◌&&◌, ◌||◌, length, ◌==◌, filter, find, if◌then◌else◌, All, Some, Contains, zero, suc, slice_index_or}
+use Rattle.register_law.proofs.Words.{has, insert, DcSet, Within, both, count_of, centres_of, IsQuorumPolicy, Meets, faults_of, member_of, members_of, Policy, Direct, Relay, Quorum, range_with_len, common_steps, All-contains, has-insert_other, has-insert_same, count-meet_left, count-meet_right, Contains-there, KeyId, IsAbove, IsAtMost, Stamp, Tag, Store, IsChain, Ghost, IsFrozenSet, IsSettled, WasSent, is_at_most, version_before, SwitchBacked}
+use Rattle.span_base.specs.declared.policy.Policy.TheVariants.{Strong}
+use Rattle.ticket_rules.proofs.StampOrder.{IsAbove-trans, IsAtMost-cases}
+use Rattle.wire_msg.specs.declared.message.Message.TheVariants as m
 
 abbrev either : (ℕ → Bool) → (ℕ → Bool) → ℕ → Bool
 either p q d = p d || q d
@@ -38,9 +35,7 @@ filter_more false d ds = omega arith
 
 bits : (a b : Bool) → one a + one b ≡ one (a && b) + one (a || b)
 bits true true = refl
-bits true false = refl
-bits false true = refl
-bits false false = refl
+bits a b = refl
 
 one_mono : (a b : Bool) → (a ≡ true → b ≡ true) → one a ≤ one b
 one_mono false b h = elim b as (λ v. 0 ≤ one v) [ true ↦ omega arith | false ↦ omega arith ]
@@ -112,3 +107,113 @@ inserted set more d h = elim (equal_or_not d more) as (λ _. (d ≡ more) ⊎ (h
 pub stays_in : (set : DcSet) (more d : ℕ) → more < 16 → has set d ≡ true → has (insert set more) d ≡ true
 stays_in set more d lt h =
     elim (equal_or_not d more) as (λ _. has (insert set more) d ≡ true) [ inl e ↦ subst (λ n. has (insert set more) n ≡ true) (sym e) (has-insert_same set more lt) | inr e ↦ has-insert_other set more d e ∙ h ]
+
+-- ---- the members of a sound strong policy, and how many centres their quorums share
+
+-- what is found is there
+found_in : {X : Type 0} → (p : X → Bool) (xs : List X) (x : X) → find p xs ≡ Some x → Contains xs x
+found_in {X} p [] x h = absurd (cc)
+found_in {X} p (y ∷ ys) x h =
+    let later : find p ys ≡ Some x → Contains ys x = found_in p ys x in
+    by (p y) later h
+  where
+    by : (b : Bool) → (find p ys ≡ Some x → Contains ys x) → (if b then Some y else find p ys) ≡ Some x → Contains (y ∷ ys) x
+    by true later k = (0, omega arith, (let e : y ≡ x = cc in e))
+    by false later k = Contains-there y ys x (later k)
+
+pub member_is_in : (policy : Policy) (at : ℕ) (member : Quorum) → member_of policy at ≡ Some member → Contains (members_of policy) member
+member_is_in (Direct f replicas primary) at member h = absurd (cc)
+member_is_in (Relay f replicas primary parent) at member h = absurd (cc)
+member_is_in (Strong f replicas members) at member h = found_in (λ q. q.dc.0 == at) members member h
+
+pub faults_are_tolerance : (policy : Policy) → faults_of policy ≡ faults_of policy
+faults_are_tolerance (Direct f replicas primary) = refl
+faults_are_tolerance policy = refl
+
+pub members_meet : (policy : Policy) (a b : Quorum) → IsQuorumPolicy policy → Contains (members_of policy) a → Contains (members_of policy) b → Meets (2 * faults_of policy + 1) a b
+members_meet (Direct f replicas primary) a b h x y = absurd h
+members_meet (Relay f replicas primary parent) a b h x y = absurd h
+members_meet (Strong f replicas members) a b h x y =
+    All-contains (λ q. Meets (2 * f + 1) a q) members b (All-contains (λ c. All (λ q. Meets (2 * f + 1) c q) members) members a h.quorums_meet x) y
+
+pub reads_some : (policy : Policy) (member : Quorum) → IsQuorumPolicy policy → Contains (members_of policy) member → 1 ≤ length (centres_of member.read)
+reads_some policy member h x =
+    let m = (members_meet policy member member h x x).0 in
+    let c = count-meet_left member.read member.write in
+    omega (arith, m, c)
+
+pub writes_some : (policy : Policy) (member : Quorum) → IsQuorumPolicy policy → Contains (members_of policy) member → 1 ≤ length (centres_of member.write)
+writes_some policy member h x =
+    let m = (members_meet policy member member h x x).0 in
+    let c = count-meet_right member.read member.write in
+    omega (arith, m, c)
+
+-- ---- what is settled in an epoch is settled in each later one that has been current
+
+pub at_most_test : (a b : Stamp) → IsAtMost a b → is_at_most a b ≡ true
+at_most_test a b h = grind (arith, common_steps)
+
+pub at_most_is : (a b : Stamp) → is_at_most a b ≡ true → IsAtMost a b
+at_most_is a b h = grind (arith, common_steps)
+
+above_test : (a b : Stamp) → IsAbove b a → is_at_most a b ≡ true
+above_test a b h = grind (arith, common_steps)
+
+pub at_most_trans : (a b c : Stamp) → is_at_most a b ≡ true → is_at_most b c ≡ true → is_at_most a c ≡ true
+at_most_trans a b c ab bc =
+    elim (IsAtMost-cases a b (at_most_is a b ab)) as (λ _. is_at_most a c ≡ true) [
+      | inl same ↦ subst (λ (x : Stamp). is_at_most x c ≡ true) (sym same) bc
+      | inr above ↦ elim (IsAtMost-cases b c (at_most_is b c bc)) as (λ _. is_at_most a c ≡ true) [
+        | inl same ↦ subst (λ (x : Stamp). is_at_most a x ≡ true) same ab
+        | inr higher ↦ above_test a c (IsAbove-trans c b a higher above)
+      ]
+    ]
+
+-- a lower stamp is settled too
+pub settled_below : (key : KeyId) (s : Store) (g : Ghost) (epoch : ℕ) (high low : Stamp) → is_at_most low high ≡ true → IsSettled key s g epoch high → IsSettled key s g epoch low
+settled_below key s g epoch high low below h =
+    let w : ℕ → Bool = has h.member.write in
+    let more = count_mono (both w (λ d. is_at_most high (version_before key s g d epoch))) (both w (λ d. is_at_most low (version_before key s g d epoch)))
+    (λ d k. and_both (w d) (is_at_most low (version_before key s g d epoch)) (and_left (w d) (is_at_most high (version_before key s g d epoch)) k)
+    (at_most_trans low high (version_before key s g d epoch) below (and_right (w d) (is_at_most high (version_before key s g d epoch)) k))) (range_with_len 0 16) in
+    let most = h.settled in
+    record { member = h.member; is_member = h.is_member; settled = omega arith }
+
+Contains-none : (e : ℕ) → Contains [] e → ⊥
+Contains-none e h = let lt = h.1 in omega arith
+
+-- it is the first, or it is among the others
+Contains-cases : (x : ℕ) (xs : List ℕ) (e : ℕ) → Contains (x ∷ xs) e → (e ≡ x) ⊎ Contains xs e
+Contains-cases x xs e h = cases h.0 h.1 h.2
+  where
+    cases : (k : ℕ) → k < length (x ∷ xs) → slice_index_or (x ∷ xs) k e ≡ e → (e ≡ x) ⊎ Contains xs e
+    cases zero lt is = inl (sym is)
+    cases (suc k) lt is = inr (k, omega arith, is)
+
+-- a frozen set meets whoever settled a stamp: one of its replicas had it
+pub frozen_met : (key : KeyId) (s : Store) (g : Ghost) (old : ℕ) (frozen : DcSet) (seeded stamp : Stamp) → IsFrozenSet key s g old frozen seeded → IsSettled key s g old stamp
+    → (d : ℕ) × (has frozen d ≡ true) × (is_at_most stamp (version_before key s g d old) ≡ true)
+frozen_met key s g old frozen seeded stamp f h =
+    let b : Quorum = h.member in
+    let w : ℕ → Bool = has b.write in
+    let x : ℕ → Bool = both w (λ d. is_at_most stamp (version_before key s g d old)) in
+    let y : ℕ → Bool = both (has frozen) w in
+    let enough = (f.meets b h.is_member).1 in
+    let most = h.settled in
+    let z = shared w x y (λ d k. and_left (w d) (is_at_most stamp (version_before key s g d old)) k) (λ d k. and_right (has frozen d) (w d) k) (omega arith) in
+    (z.0, and_left (has frozen z.0) (w z.0) z.2, and_right (w z.0) (is_at_most stamp (version_before key s g z.0 old)) z.1)
+
+-- a switch that was asked for carries what is settled
+pub one_step : (key : KeyId) (s : Store) (g : Ghost) (old new : ℕ) (stamp : Stamp) → SwitchBacked key s g old new → IsSettled key s g old stamp → IsSettled key s g new stamp
+one_step key s g old new stamp b h =
+    let d = frozen_met key s g old b.frozen b.seeded stamp b.frozen_set h in
+    let below : is_at_most stamp b.seeded ≡ true = at_most_trans stamp (version_before key s g d.0 old) b.seeded d.2 (at_most_test (version_before key s g d.0 old) b.seeded (b.frozen_set.below d.0 d.1)) in
+    settled_below key s g new b.seeded stamp below b.settled
+
+pub carried_up : (key : KeyId) (s : Store) (g : Ghost) → ((tag : Tag) (old new : ℕ) → WasSent s (m.Switch tag key old new) → SwitchBacked key s g old new) → (stamp : Stamp) (new : ℕ) (rest : List ℕ) → IsChain key s (new ∷ rest) → (e : ℕ) → Contains (new ∷ rest) e → IsSettled key s g e stamp → IsSettled key s g new stamp
+carried_up key s g backed stamp new [] c e h k = elim (Contains-cases new [] e h) as (λ _. IsSettled key s g new stamp) [ inl is ↦ subst (λ x. IsSettled key s g x stamp) is k | inr none ↦ absurd (Contains-none e none) ]
+carried_up key s g backed stamp new (old ∷ rest) c e h k =
+    elim (Contains-cases new (old ∷ rest) e h) as (λ _. IsSettled key s g new stamp) [
+      | inl is ↦ subst (λ x. IsSettled key s g x stamp) is k
+      | inr later ↦ one_step key s g old new stamp (backed c.1.tag old new c.1.sent) (carried_up key s g backed stamp old rest c.2 e later k)
+    ]

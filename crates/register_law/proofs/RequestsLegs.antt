@@ -1,34 +1,12 @@
 -- Every event keeps it that each leg of a call of a strong key has one request, its first one.
-use Rattle.std.proofs.Common.{◌≡◌, ◌⊎◌, inl, inr, ℕ, ◌+◌, ◌≤◌, Bool, true, false, List, [], ◌∷◌, refl, sym, ap, ◌∙◌, subst, arith}
-use Rattle.std.specs.Prelude.{◌==◌, if◌then◌else◌, Option, Some, None, IsSome, Contains}
-use Rattle.span_base.specs.declared.ids.Call.{Call}
-use Rattle.span_base.specs.declared.ids.KeyId.{KeyId}
-use Rattle.ticket_rules.specs.declared.stamp.Stamp.{Stamp}
-use Rattle.wire_msg.specs.declared.tag.Tag.{Tag}
-use Rattle.wire_msg.specs.declared.message.Message.{Message}
-use Rattle.wire_msg.specs.declared.outputs.Post.{Post}
-use Rattle.wire_msg.specs.Posts.{tag_of}
+use Rattle.std.proofs.Common.{◌≡◌, ◌⊎◌, inl, inr, ℕ, ◌+◌, ◌≤◌, Bool, true, false, List, [], ◌∷◌, refl, sym, ap, ◌∙◌, subst, arith, ◌==◌, if◌then◌else◌, Option, Some, None, IsSome, Contains}
+use Rattle.register_law.proofs.Words.{Call, KeyId, Stamp, tag_of, Message, Post, Tag, Kept, Handle, tag_of_call, Store, kept_of, proxy_at, Happening, handle_in, LiveCall, Happened, next_call, Ghost, leg_of, legs_after, noted_of, IsLegRequest, LegsAreBacked, IsTagOf, WasSent, IsLiveAt, IsPushFree, IsSamePoint, request_key, among, none_among, NotedLeg as Leg}
 use Rattle.wire_msg.specs.declared.message.Message.TheVariants as m
-use Rattle.slot_pool.specs.declared.handles.Handle.{Handle}
-use Rattle.replica_core.specs.declared.kept.Kept.{Kept}
-use Rattle.register_order.proofs.Members.{among, none_among}
-use Rattle.world_core.specs.declared.live.LiveCall.{LiveCall}
-use Rattle.world_core.specs.State.{Store, kept_of, proxy_at}
-use Rattle.world_core.specs.Calls.{tag_of_call}
-use Rattle.world_core.specs.Step.{Happening, handle_in}
-use Rattle.register_law.specs.Ghost.{Ghost, Leg, noted_of, leg_of, legs_after}
-use Rattle.register_law.specs.Seen.{WasSent}
-use Rattle.register_law.specs.Replicas.{IsTagOf}
-use Rattle.register_law.specs.Legs.{IsLegRequest, LegsAreBacked}
-use Rattle.register_law.specs.Tags.{IsLiveAt, IsSamePoint, IsPushFree, request_key}
-use Rattle.register_law.specs.Cases.{Happened, next_call}
-use Rattle.register_law.proofs.Grown.{calls_grow}
-use Rattle.register_law.proofs.TagsPosts.{IsPushedOn}
-use Rattle.register_law.proofs.TagsFresh.{LiveFrom, older, newer, live_from}
-use Rattle.register_law.proofs.TagsSent.{Posted, replies, opens, asks, posted, sent_after, posted_there}
+use Rattle.register_law.proofs.Growth.{calls_grow}
+use Rattle.register_law.proofs.TagsSent.{IsPushedOn, Posted, replies, opens, asks, posted, sent_after, posted_there}
+use Rattle.register_law.proofs.TagsCalls.{LiveFrom, older, newer, live_from}
 use Rattle.register_law.proofs.TagsKept.{tags_kept}
-use Rattle.register_law.proofs.RequestsBegun.{begun_some_stays}
-use Rattle.register_law.proofs.RequestsKept.{Before, no_answer_asks, requests_kept}
+use Rattle.register_law.proofs.RequestsKept.{begun_some_stays, Before, no_answer_asks, requests_kept}
 use Rattle.register_law.proofs.Basics.{key_is}
 
 -- the leg that the message begins

@@ -1,30 +1,12 @@
 -- Every event keeps it that tags tell calls and phases apart.
-use Rattle.std.proofs.Common.{◌≡◌, ◌⊎◌, inl, inr, ℕ, ◌<◌, ◌≤◌, List, refl, sym, ap, ◌∙◌, subst, arith}
-use Rattle.std.specs.Prelude.{length, None, IsSome, Contains}
-use Rattle.span_base.specs.declared.ids.Call.{Call}
-use Rattle.span_base.specs.declared.ids.KeyId.{KeyId}
-use Rattle.ticket_rules.specs.declared.stamp.Stamp.{Stamp}
-use Rattle.wire_msg.specs.declared.tag.Tag.{Tag}
-use Rattle.wire_msg.specs.declared.message.Message.{Message}
-use Rattle.wire_msg.specs.declared.outputs.Post.{Post}
-use Rattle.wire_msg.specs.Posts.{tag_of}
-use Rattle.call_phase.specs.Counting.{next_tag}
-use Rattle.slot_pool.specs.declared.handles.Handle.{Handle}
-use Rattle.world_core.specs.declared.live.LiveCall.{LiveCall}
-use Rattle.world_core.specs.State.{Store}
-use Rattle.world_core.specs.Calls.{tag_of_call, key_of_call}
-use Rattle.world_core.specs.Starting.{first_tag}
-use Rattle.world_core.specs.Step.{Happening, handle_in}
-use Rattle.register_law.specs.Seen.{WasSent}
-use Rattle.register_law.specs.Tags.{TagsTellApart, IsNumbered, IsLiveAt, request_key}
-use Rattle.register_law.specs.Cases.{Happened, CallTook, next_call}
+use Rattle.std.proofs.Common.{◌≡◌, ◌⊎◌, inl, inr, ℕ, ◌<◌, ◌≤◌, List, refl, sym, ap, ◌∙◌, subst, arith, length, None, IsSome, Contains, Option, Some}
+use Rattle.register_law.proofs.Words.{Call, KeyId, Stamp, tag_of, Message, Post, Tag, next_tag, Handle, key_of_call, tag_of_call, first_tag, Store, Happening, handle_in, LiveCall, CallTook, Happened, next_call, WasSent, IsLiveAt, IsNumbered, TagsTellApart, request_key, View, proxy_at, view_at, views_after, views_with}
 use Rattle.register_law.proofs.Growth.{directory_grows}
-use Rattle.register_law.proofs.TagsCalls.{LiveIs, was_live, begins, went_on, taken_of, live_after, lives_on}
+use Rattle.register_law.proofs.TagsCalls.{LiveIs, was_live, begins, went_on, taken_of, live_after, lives_on, LiveFrom, older, newer, live_from, numbered_stays, next_numbered, next_is_numbered, next_is_none, started_opens, proxies_stay}
 use Rattle.register_law.proofs.TagsSends.{GoesOn, stays, turns, ends}
 use Rattle.register_law.proofs.TagsSteps.{may_ask}
-use Rattle.register_law.proofs.TagsFresh.{LiveFrom, older, newer, live_from, numbered_stays, next_numbered, next_is_numbered, next_is_none, started_opens, proxies_stay}
 use Rattle.register_law.proofs.TagsSent.{Posted, replies, opens, asks, sent_after, was_sent_stays, goes_on_at, sender_turns}
-use Rattle.register_law.proofs.TagsViews.{views_stay_keyed}
+use Rattle.register_law.proofs.ReplicasKept.{view_set, view_learned, ViewsAfter, same_views, learned_views, shown_views, views_after_event}
 
 posted_numbered : (s : Store) (h : Happening) → Happened s h → TagsTellApart s → (message : Message) → Posted s h message → IsNumbered h.store (tag_of message)
 posted_numbered s h is tags message (replies from sent answer) = numbered_stays s h is (tag_of message) (subst (IsNumbered s) (sym answer.tag) (tags.sent_numbered from sent))
@@ -56,7 +38,7 @@ live_own : (s : Store) (h : Happening) → Happened s h → TagsTellApart s → 
 live_own s h is tags p handle call (was_live live) = let own = tags.live_numbered p handle call live in (numbered_stays s h is (tag_of_call call) own.0, own.1)
 live_own s h is tags p handle call (begins key work st at same) =
     subst (λ (x : LiveCall). IsOwn h.store p (tag_of_call x)) (sym same) (subst (IsOwn h.store p) (sym (started_opens s p key work h st).tag_is) (next_is_numbered s p key work h st, refl))
-live_own s h is tags p handle call (went_on message old took at same) =
+live_own s h is tags p handle call (went_on message old took at same _) =
     let own = turned_own s p (tag_of_call old) (tag_of_call (taken_of s p message old).state) (tags.live_numbered p (handle_in message) old took.live)
     (goes_tag (may_ask old) (tag_of_call old) (key_of_call old) (taken_of s p message old).state (taken_of s p message old).out (goes_on_at s p message old)) in
     subst (λ (x : LiveCall). IsOwn h.store p (tag_of_call x)) (sym same) (numbered_stays s h is (tag_of_call (taken_of s p message old).state) own.0, own.1)
@@ -116,6 +98,20 @@ asked_before s h is message (replies from sent answer) no_key = (from, was_sent_
 asked_before s h is message (opens p key work st tag at free) no_key = absurd (cc)
 asked_before s h is message (asks p taken call post took tag at free c) no_key = absurd (cc)
 
+-- the view of a key stays of the key
+learned_keyed : (key : KeyId) (views : List View) (message : Message) → (view_at views key).key ≡ key → (view_at (views_after views message) key).key ≡ key
+learned_keyed key views message was = view_learned (λ view. view.key ≡ key) key views message (λ tag epoch policy newest newest_policy is. refl) was
+
+shown_keyed : (key : KeyId) (views : List View) (o : Option View) → (view_at views key).key ≡ key → (view_at (views_with views o) key).key ≡ key
+shown_keyed key views None was = was
+shown_keyed key views (Some view) was = view_set (λ x. x.key ≡ key) key views view.key view (λ e. e) was
+
+views_stay_keyed : (s : Store) (h : Happening) (p : ℕ) (key : KeyId) → ViewsAfter s h p → (view_at (proxy_at s p).views key).key ≡ key → (view_at (proxy_at h.store p).views key).key ≡ key
+views_stay_keyed s h p key (same_views is) was = ap (λ (x : List View). (view_at x key).key) is ∙ was
+views_stay_keyed s h p key (learned_views message sent is) was = ap (λ (x : List View). (view_at x key).key) is ∙ learned_keyed key (proxy_at s p).views message was
+views_stay_keyed s h p key (shown_views message old took is) was =
+    ap (λ (x : List View). (view_at x key).key) is ∙ shown_keyed key (views_after (proxy_at s p).views message) (taken_of s p message old).out.view (learned_keyed key (proxy_at s p).views message was)
+
 pub tags_kept : (s : Store) (h : Happening) → Happened s h → TagsTellApart s → TagsTellApart h.store
 tags_kept s h is tags = record {
   sent_numbered = sent_numbered_after s h is tags;
@@ -124,7 +120,7 @@ tags_kept s h is tags = record {
   view_keys = λ p key exists known.
       let many = proxies_stay s h is in
       let sets = (directory_grows s h is).sets in
-      views_stay_keyed s h is p key (tags.view_keys p key (omega arith) (subst (λ (x : List ℕ). key.0 < length x) sets known));
+      views_stay_keyed s h p key (views_after_event s h is p) (tags.view_keys p key (omega arith) (subst (λ (x : List ℕ). key.0 < length x) sets known));
   phase_bound = λ p handle call message live sent same.
       elim (sent_after s h is message sent) as (λ _. (tag_of message).phase ≤ (tag_of_call call).phase) [
         | inl old ↦ bound_old s h p handle call message tags (live_from s h is p handle call live) old same

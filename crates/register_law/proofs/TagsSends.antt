@@ -1,22 +1,7 @@
 -- What a call sends at once: copies of one request.
-use Rattle.std.proofs.Common.{◌≡◌, inl, inr, ℕ, List, [], ◌∷◌, refl, ap, arith}
-use Rattle.std.specs.Prelude.{map, Option, Some, None, IsSome, Contains}
-use Rattle.span_base.specs.declared.ids.KeyId.{KeyId}
-use Rattle.span_base.specs.declared.dc_set.DcSet.{DcSet}
-use Rattle.span_base.specs.DcSet.{centres_of}
-use Rattle.ticket_rules.specs.declared.stamp.Stamp.{Stamp}
-use Rattle.wire_msg.specs.declared.tag.Tag.{Tag}
-use Rattle.wire_msg.specs.declared.message.Message.{Message}
-use Rattle.wire_msg.specs.declared.outputs.Post.{Post}
-use Rattle.wire_msg.specs.declared.outputs.Outputs.{Outputs}
-use Rattle.wire_msg.specs.Posts.{tag_of}
+use Rattle.std.proofs.Common.{◌≡◌, inl, inr, ℕ, List, [], ◌∷◌, refl, ap, map, Option, Some, None, IsSome, Contains}
+use Rattle.register_law.proofs.Words.{centres_of, DcSet, KeyId, Stamp, tag_of, Message, Outputs, Post, Tag, next_tag, post_to, posts_to, key_of_call, tag_of_call, LiveCall, IsPushFree, request_key, among, none_among}
 use Rattle.wire_msg.specs.declared.message.Message.TheVariants as m
-use Rattle.call_phase.specs.Counting.{next_tag}
-use Rattle.call_phase.specs.Requests.{post_to, posts_to}
-use Rattle.register_order.proofs.Members.{among, none_among}
-use Rattle.world_core.specs.declared.live.LiveCall.{LiveCall}
-use Rattle.world_core.specs.Calls.{tag_of_call, key_of_call}
-use Rattle.register_law.specs.Tags.{request_key, IsPushFree}
 
 -- each post has this message
 abbrev pub AreCopies : Message → List Post → Type 0

@@ -1,44 +1,67 @@
--- Whatever was begun, and has no end, lives.
-use Rattle.std.proofs.Common.{◌≡◌, inl, inr, ℕ, Bool, true, false, List, [], ◌∷◌, ◌++◌, refl, sym, ap, ◌∙◌, subst, arith}
-use Rattle.std.specs.Prelude.{if◌then◌else◌, Option, Some, Contains}
-use Rattle.std.proofs.lemmas.List.Elements.{Contains-append_left, Contains-append_right, Contains-append_cases}
-use Rattle.span_base.specs.declared.ids.Call.{Call}
-use Rattle.span_base.specs.declared.ids.KeyId.{KeyId}
-use Rattle.span_base.specs.declared.ids.DcId.{DcId}
-use Rattle.span_base.specs.PolicyParts.{member_of}
-use Rattle.ticket_rules.specs.declared.stamp.Stamp.{Stamp}
-use Rattle.ticket_rules.specs.Stamp.{stamp_zero}
-use Rattle.wire_msg.specs.declared.tag.Tag.{Tag}
-use Rattle.wire_msg.specs.declared.outputs.View.{View}
-use Rattle.wire_msg.specs.declared.outputs.Reply.{Reply}
-use Rattle.wire_msg.specs.Posts.{tag_of}
+-- Whatever was begun, and has no end, lives; and what lives lives on, unless the event marks its end.
+use Rattle.std.proofs.Common.{◌≡◌, ℕ, [], ◌∷◌, ◌++◌, refl, sym, ap, ◌∙◌, subst, arith, Option, Some, None, Contains, inl, inr, Bool, true, false, List, if◌then◌else◌}
+use Rattle.register_law.proofs.Words.{StrongWork, Call, Stamp, Step, tag_of, Message, Reply, View, Tag, counted, Next, Wait, CallState, Handle, key_of_call, tag_of_call, take, learned, proxy_at, view_at, Happening, end_marks, handle_in, ticket_marks, LiveCall, Strong, CallTook, Happened, IsWork, IsLiveAt, IsKindOf, DcId, KeyId, same_handle, item_at, with_item, EndsWith, Mark, Work, Taken, first_tag, Proxy, Store, is_strong_key, Started, next_call, IsLiveCall, OpenCallsLive, Contains-append_right, Contains-append_left, Contains-append_cases, Work as Asked, Store as World, none_among, is_register_work}
 use Rattle.wire_msg.specs.declared.outputs.Reply.TheVariants as r
-use Rattle.slot_pool.specs.Slots.{item_at, with_item}
-use Rattle.slot_pool.specs.Calls.{same_handle}
-use Rattle.slot_pool.proofs.HistoryLemmas.{put_map}
-use Rattle.strong_proxy.specs.declared.state.Work.TheVariants.{ToRead, ToWrite}
-use Rattle.strong_proxy.specs.Rule.{opened_as}
-use Rattle.run_marks.specs.declared.mark.Work.{Work}
-use Rattle.run_marks.specs.declared.mark.Mark.{Mark}
-use Rattle.run_marks.specs.History.{EndsWith}
-use Rattle.run_marks.specs.declared.mark.Work.TheVariants as w
+use Rattle.strong_proxy.specs.Rule as strong
 use Rattle.run_marks.specs.declared.mark.Mark.TheVariants as k
-use Rattle.world_core.specs.declared.live.LiveCall.{LiveCall}
-use Rattle.world_core.specs.State.{Store, Proxy, proxy_at}
-use Rattle.world_core.specs.Calls.{Taken, tag_of_call}
-use Rattle.world_core.specs.Starting.{opened_call, first_tag}
-use Rattle.world_core.specs.Step.{Happening, is_strong_key}
-use Rattle.register_law.specs.Tags.{IsLiveAt}
-use Rattle.register_law.specs.Cases.{Happened, Started, next_call}
-use Rattle.register_law.specs.Waiting.{IsKindOf, IsLiveCall, OpenCallsLive}
-use Rattle.register_law.proofs.CallsBegun.{start_view, of_member}
-use Rattle.register_law.proofs.TagsAlike.{is_itself}
-use Rattle.register_law.proofs.TagsCalls.{taken_of, proxy_is}
-use Rattle.register_law.proofs.TagsFresh.{started_opens}
-use Rattle.register_law.proofs.MarksAre.{MarksAre, unmarked, of_no_call, of_refused, of_start, of_call, of_give_up, marks_are, start_ticket, in_one, in_two, in_start_marks, moved, other_call}
-use Rattle.register_law.proofs.MarksBegins.{end_begins, call_begins}
-use Rattle.register_law.proofs.WaitingLives.{LivesOrEnds, lives, is_ended, lives_or_ends}
-use Rattle.register_order.proofs.Members.{none_among}
+use Rattle.slot_pool.proofs.HistoryLemmas.{put_map}
+use Rattle.register_law.proofs.CallsOthers.{StrongStep, counts_it, ignores_it, strong_step, take_end}
+use Rattle.register_law.proofs.TagsCalls.{taken_of, proxy_is, started_opens}
+use Rattle.register_law.proofs.TagsSteps.{may_ask, take_goes_on}
+use Rattle.register_law.proofs.WaitingMeets.{same_part, Meets, untouched, takes, given_up, meets, takes_and_lives}
+use Rattle.register_law.proofs.CallsStart.{start_view}
+use Rattle.register_law.proofs.CallsRows.{opens, OpensAs, opens_read, opens_write, opens_move, opens_get, opens_put, opens_eventual_move}
+use Rattle.register_law.proofs.Basics.{is_itself}
+use Rattle.register_law.proofs.MarksAre.{MarksAre, unmarked, of_no_call, of_refused, of_start, of_call, of_give_up, marks_are, start_ticket, in_one, in_two, in_start_marks, moved, other_call, end_begins, call_begins}
+
+-- no step changes what a call does
+done_work : (next : Next) (call : CallState) → (strong.done next call).state.work ≡ call.work
+done_work Wait call = refl
+done_work next call = refl
+
+step_work : (call : CallState) (message : Message) (view : View) (seen : ℕ) (made : (Step CallState)) → StrongStep call message view seen made → made.state.work ≡ call.work
+step_work call message view seen made (counts_it counts own is) = ap (λ (x : (Step CallState)). x.state.work) is ∙ done_work (strong.next_of (counted call message) view seen) (counted call message)
+step_work call message view seen made (ignores_it is) = ap (λ (x : (Step CallState)). x.state.work) is
+
+-- a call that takes a message stays of its kind
+take_kind : (call : LiveCall) (message : Message) (view : View) (seen : ℕ) (asked : Asked) → IsKindOf call asked → IsKindOf (take call message view seen).state asked
+take_kind (Strong call) message view seen asked kind = subst (λ (x : StrongWork). IsWork x asked) (sym (step_work call message view seen (strong.step call message view seen) (strong_step call message view seen))) kind
+take_kind call message view seen asked kind = kind
+
+-- the call lives on, and is of its kind, or the event marks its end
+pub data LivesOrEnds (s : World) (h : Happening) (p : ℕ) (handle : Handle) (live : LiveCall) : Type 0 where
+  lives : (now : LiveCall) → IsLiveAt h.store p handle now → (tag_of_call now).call ≡ (tag_of_call live).call → ((asked : Asked) → IsKindOf live asked → IsKindOf now asked) → LivesOrEnds s h p handle live
+  is_ended : (reply : Reply) → Contains h.marks (k.End (tag_of_call live).call reply) → LivesOrEnds s h p handle live
+
+end_among : (call : Call) (t : Option Stamp) (o : Option Reply) (reply : Reply) → o ≡ Some reply → Contains (ticket_marks call t ++ end_marks call o) (k.End call reply)
+end_among call t o reply is =
+    subst (λ (x : Option Reply). Contains (ticket_marks call t ++ end_marks call x) (k.End call reply)) (sym is)
+    (Contains-append_right (ticket_marks call t) (k.End call reply ∷ []) (k.End call reply) (0, omega arith, refl))
+
+-- the end of a call that took a message is marked
+pub end_is_marked : (s : World) (h : Happening) (p : ℕ) (message : Message) (live : LiveCall) → CallTook s p message live h → (reply : Reply) → (taken_of s p message live).out.end ≡ Some reply → Contains h.marks (k.End (tag_of_call live).call reply)
+end_is_marked s h p message live t reply end =
+    let own : tag_of_call live ≡ tag_of message = take_end live message (view_at (learned (proxy_at s p) message).views (key_of_call live)) (learned (proxy_at s p) message).seen reply end in
+    subst (λ (c : Call). Contains h.marks (k.End c reply)) (ap (λ (x : Tag). x.call) (sym own)) (subst (λ (x : Happening). Contains x.marks (k.End (tag_of message).call reply)) (sym t.is)
+    (end_among (tag_of message).call (taken_of s p message live).out.ticket (taken_of s p message live).out.end reply end))
+
+-- a call that takes a message lives on or ends
+took : (s : World) (h : Happening) (p : ℕ) (message : Message) (live : LiveCall) → CallTook s p message live h → (o : Option Reply) → (taken_of s p message live).out.end ≡ o → LivesOrEnds s h p (handle_in message) live
+took s h p message live t None end =
+    lives (taken_of s p message live).state (takes_and_lives s h p message live t end)
+    (same_part (λ (tag : Tag). tag.call) (λ _. refl) (may_ask live) (tag_of_call live) (key_of_call live) (taken_of s p message live).state (taken_of s p message live).out (take_goes_on live message (view_at (learned (proxy_at s p) message).views (key_of_call live)) (learned (proxy_at s p) message).seen))
+    (λ asked kind. take_kind live message (view_at (learned (proxy_at s p) message).views (key_of_call live)) (learned (proxy_at s p) message).seen asked kind)
+took s h p message live t (Some reply) end = is_ended reply (end_is_marked s h p message live t reply end)
+
+pub lives_or_ends : (s : World) (h : Happening) → Happened s h → (p : ℕ) (handle : Handle) (live : LiveCall) → IsLiveAt s p handle live → LivesOrEnds s h p handle live
+lives_or_ends s h is p handle live there = by (meets s h is p handle live there)
+  where
+    by : Meets s h p handle live → LivesOrEnds s h p handle live
+    by (untouched now) = lives live now refl (λ asked kind. kind)
+    by (takes message t same) = subst (λ (x : Handle). LivesOrEnds s h p x live) (sym same) (took s h p message live t (taken_of s p message live).out.end refl)
+    by (given_up c) = is_ended r.GivenUp c
+
+-- ---- whatever was begun, and has no end, lives
 
 new_item : (b : Bool) (item : LiveCall) (o new : Option LiveCall) → b ≡ true → new ≡ (if b then Some item else o) → new ≡ Some item
 new_item true item o new same is = is
@@ -52,24 +75,15 @@ started_lives s h p key work st =
     (new_item (same_handle st.handle st.handle) st.taken.state (item_at (proxy_at s p).calls st.handle) (item_at (with_item (proxy_at s p).calls st.handle st.taken.state) st.handle)
     (is_itself st.handle.slot st.handle.generation) (put_map (proxy_at s p).calls st.handle st.taken.state st.free st.handle)))
 
-of_some : (asked : Work) (one taken : Taken) → Some one ≡ Some taken → IsKindOf one.state asked → IsKindOf taken.state asked
-of_some asked one taken e kind = subst (λ (x : Taken). IsKindOf x.state asked) (let same : one ≡ taken = cc in same) kind
-
 -- what a call that begins is
-kind_opened : (strong : Bool) (tag : Tag) (at : DcId) (view : View) (ticket : Stamp) (asked : Work) (taken : Taken) → opened_call strong tag at view ticket asked ≡ Some taken → IsKindOf taken.state asked
-unfolding opened_as
-kind_opened true tag at view ticket w.Read taken h = (let o = of_member ToRead stamp_zero tag at view taken (member_of view.policy at.0) refl h in subst (λ (x : Taken). IsKindOf x.state w.Read) (sym o.is) refl)
-kind_opened true tag at view ticket (w.Write value) taken h = (let o = of_member (ToWrite value) ticket tag at view taken (member_of view.policy at.0) refl h in subst (λ (x : Taken). IsKindOf x.state (w.Write value)) (sym o.is) refl)
-kind_opened true tag at view ticket w.Get taken h = absurd (cc)
-kind_opened true tag at view ticket w.GetAny taken h = absurd (cc)
-kind_opened true tag at view ticket (w.Put value) taken h = absurd (cc)
-kind_opened true tag at view ticket w.Move taken h = of_some w.Move _ taken h refl
-kind_opened false tag at view ticket w.Read taken h = absurd (cc)
-kind_opened false tag at view ticket (w.Write value) taken h = absurd (cc)
-kind_opened false tag at view ticket w.Get taken h = of_some w.Get _ taken h refl
-kind_opened false tag at view ticket w.GetAny taken h = of_some w.GetAny _ taken h refl
-kind_opened false tag at view ticket (w.Put value) taken h = of_some (w.Put value) _ taken h refl
-kind_opened false tag at view ticket w.Move taken h = of_some w.Move _ taken h refl
+kind_opened : (strong : Bool) (tag : Tag) (at : DcId) (view : View) (ticket : Stamp) (asked : Work) (taken : Taken) → OpensAs strong tag at view ticket asked taken → IsKindOf taken.state asked
+kind_opened strong tag at view ticket asked taken (opens_read _ _ asked_is _ is) = subst (λ (x : Taken). IsKindOf x.state asked) (sym is) asked_is
+kind_opened strong tag at view ticket asked taken (opens_write _ _ _ asked_is _ is) = subst (λ (x : Taken). IsKindOf x.state asked) (sym is) asked_is
+kind_opened strong tag at view ticket asked taken (opens_move _ asked_is is) = subst (λ (x : Taken). IsKindOf x.state asked) (sym is) (ap is_register_work asked_is)
+kind_opened strong tag at view ticket asked taken (opens_get _ _ (inl asked_is) is) = subst (λ (x : Taken). IsKindOf x.state asked) (sym is) (ap is_register_work asked_is)
+kind_opened strong tag at view ticket asked taken (opens_get _ _ (inr asked_is) is) = subst (λ (x : Taken). IsKindOf x.state asked) (sym is) (ap is_register_work asked_is)
+kind_opened strong tag at view ticket asked taken (opens_put _ _ asked_is is) = subst (λ (x : Taken). IsKindOf x.state asked) (sym is) (ap is_register_work asked_is)
+kind_opened strong tag at view ticket asked taken (opens_eventual_move _ asked_is is) = subst (λ (x : Taken). IsKindOf x.state asked) (sym is) (ap is_register_work asked_is)
 
 same_begin : (call other : Call) (key at : KeyId) (work asked : Work) → k.Begin call key work ≡ k.Begin other at asked → (other ≡ call) × (asked ≡ work)
 same_begin call other key at work asked e = (cc, cc)
@@ -79,7 +93,7 @@ begun_lives : (s : Store) (h : Happening) → MarksAre s h → (call : Call) (at
 begun_lives s h (unmarked is) call at work c goes_on = absurd (none_among (k.Begin call at work) (moved h.marks [] (k.Begin call at work) is c))
 begun_lives s h (of_no_call mark none is) call at work c goes_on =
     in_one (IsLiveCall h.store call work) mark (k.Begin call at work) (λ same. other_call (IsLiveCall h.store call work) (k.Begin call at work) mark call refl same none) (moved h.marks (mark ∷ []) (k.Begin call at work) is c)
-begun_lives s h (of_refused p key asked reply lt dead is) call at work c goes_on =
+begun_lives s h (of_refused p key asked reply lt dead _ is) call at work c goes_on =
     in_two (IsLiveCall h.store call work) (k.Begin (next_call s p) key asked) (k.End (next_call s p) reply) (k.Begin call at work) (λ same. refused (same_begin call (next_call s p) at key work asked same).0) (λ same. let e = same in absurd (cc))
     (moved h.marks _ (k.Begin call at work) is c)
   where
@@ -95,7 +109,7 @@ begun_lives s h (of_start p key asked st is) call at work c goes_on =
       live = st.taken.state;
       is = started_lives s h p key asked st;
       of = ap (λ (t : Tag). t.call) (started_opens s p key asked h st).tag_is;
-      kind = kind_opened (is_strong_key s key) (first_tag (next_call s p) st.handle) (proxy_at s p).at (start_view s p key) (start_ticket s p key) asked st.taken st.first;
+      kind = kind_opened _ _ _ _ _ asked st.taken (opens (is_strong_key s key) (first_tag (next_call s p) st.handle) (proxy_at s p).at (start_view s p key) (start_ticket s p key) asked st.taken st.first);
     }))
 begun_lives s h (of_call p message live took is) call at work c goes_on =
     absurd (call_begins (tag_of message).call (taken_of s p message live).out.ticket (taken_of s p message live).out.end call at work (moved h.marks _ (k.Begin call at work) is c))

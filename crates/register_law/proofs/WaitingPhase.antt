@@ -1,34 +1,68 @@
--- A phase in which nothing counted is undecided, and a call whose answers decide nothing waits.
-use Rattle.std.proofs.Common.{◌≡◌, ℕ, ◌+◌, ◌*◌, ◌<◌, ◌≤◌, false, refl, sym, ap, ◌∙◌, subst, arith}
-use Rattle.std.specs.Prelude.{length, nat_le, Option, Some, None}
-use Rattle.std.specs.List.{range_with_len}
-use Rattle.std.proofs.lemmas.Grind.{common_steps}
-use Rattle.span_base.specs.declared.ids.KeyId.{KeyId}
-use Rattle.span_base.specs.declared.dc_set.DcSet.{DcSet}
-use Rattle.span_base.specs.DcSet.{has, no_centre, centres_of, centres_below}
-use Rattle.span_base.specs.declared.policy.Quorum.{Quorum}
-use Rattle.span_base.specs.declared.policy.Policy.{Policy}
-use Rattle.span_base.specs.Policy.{IsQuorumPolicy}
-use Rattle.span_base.specs.PolicyParts.{member_of, faults_of}
-use Rattle.span_base.proofs.Sets.{count-no_centre, count-meet_left, count-meet_right}
-use Rattle.call_phase.specs.declared.best.Found.{Found}
-use Rattle.strong_proxy.specs.declared.progress.Leg.{Leg}
-use Rattle.strong_proxy.specs.declared.progress.Progress.{Progress}
-use Rattle.strong_proxy.specs.declared.progress.Stage.{Stage}
-use Rattle.strong_proxy.specs.declared.progress.Stage.TheVariants.{First, Second, Looking, Ended}
-use Rattle.strong_proxy.specs.declared.state.Work.{Work}
-use Rattle.strong_proxy.specs.declared.state.Work.TheVariants.{ToRead, ToWrite}
-use Rattle.strong_proxy.specs.declared.state.CallState.{CallState}
-use Rattle.strong_proxy.specs.Rule.{best_stamp}
-use Rattle.world_core.specs.State.{Store, policy_of}
-use Rattle.register_law.specs.Ghost.{Ghost}
-use Rattle.register_law.specs.Live.{IsAskedOf, HasPolicy, StrongCounted, FirstCounted, NoneCounted}
-use Rattle.register_law.specs.Ends.{OpeningsAreBacked}
-use Rattle.register_law.specs.Waiting.{IsUndecided, Waits, AsksQuorum}
-use Rattle.register_law.proofs.Quorums.{count_mono}
-use Rattle.register_law.proofs.CallsMembers.{member_is_in, faults_are_tolerance, members_meet}
+-- A phase that waits is open: neither enough good answers nor too many refusals.
+use Rattle.std.proofs.Common.{◌≡◌, ℕ, ◌+◌, Bool, true, false, refl, sym, subst, ◌*◌, ◌<◌, ◌≤◌, ap, ◌∙◌, arith, if◌then◌else◌, ◌==◌, length, nat_lt, Option, Some, None, nat_le}
+use Rattle.register_law.proofs.Words.{centres_of, member_of, Quorum, Stamp, View, has_quorum, is_lost, enter, go_over, leg_under, next_ticket, verdict_at, Enter, Look, Moved, NumbersOut, Wait, Progress, Stage, Ended, First, Looking, Second, ToRead, ToWrite, Waits, IsDecided, centres_below, has, no_centre, IsQuorumPolicy, faults_of, DcSet, KeyId, Policy, Found, best_stamp, Leg, CallState, Store, policy_of, OpeningsAreBacked, Ghost, FirstCounted, HasPolicy, IsAskedOf, StrongCounted, range_with_len, common_steps, StrongWork as Work, count-no_centre, count-meet_left, count-meet_right}
+use Rattle.register_law.specs.WaitingPhases.{IsDecidedBy, by_good, by_bad, IsOpen}
+use Rattle.register_law.proofs.Next.{AnswersWhen, at_mark, repaired, GoesOver, over_first, over_repair, over_look, is_many, WaitsWhen, undecided, nothing_found, over}
 use Rattle.register_law.proofs.OpeningsCurrent.{at_most_is}
-use Rattle.register_law.proofs.Next.{is_many, WaitsWhen, undecided, nothing_found, over}
+use Rattle.register_law.proofs.Basics.{less_is}
+use Rattle.register_law.specs.Live.{NoneCounted}
+use Rattle.register_law.specs.Waiting.{IsUndecided, AsksQuorum}
+use Rattle.register_law.proofs.Quorums.{count_mono, member_is_in, faults_are_tolerance, members_meet}
+
+pub quorum_decides : (p : Progress) → has_quorum p.leg.f p.phase ≡ true → IsDecidedBy p.leg.f p.phase
+quorum_decides p h = by_good (at_most_is (length (centres_of p.phase.asked)) (length (centres_of p.phase.good) + p.leg.f) h)
+
+pub loss_decides : (p : Progress) → is_lost p.leg.f p.phase ≡ true → IsDecidedBy p.leg.f p.phase
+loss_decides p h = by_bad (less_is p.leg.f (length (centres_of p.phase.bad)) h)
+
+pub at_first : (stage : Stage) (p : Progress) → stage ≡ First → IsDecidedBy p.leg.f p.phase → IsDecided stage p
+at_first stage p is d = subst (λ (x : Stage). IsDecided x p) (sym is) d
+
+pub at_second : (stage : Stage) (p : Progress) → stage ≡ Second → IsDecidedBy p.leg.f p.phase → IsDecided stage p
+at_second stage p is d = subst (λ (x : Stage). IsDecided x p) (sym is) d
+
+pub at_look : (stage : Stage) (p : Progress) → stage ≡ Looking → IsDecided stage p
+at_look stage p is = subst (λ (x : Stage). IsDecided x p) (sym is) tt
+
+pub answer_decides : (stage : Stage) (work : Work) (best : Option Stamp) (p : Progress) → AnswersWhen stage work best p → IsDecided stage p
+answer_decides stage work best p (at_mark version first reads quorum found covered) = at_first stage p first (quorum_decides p quorum)
+answer_decides stage work best p (repaired second reads quorum) = at_second stage p second (quorum_decides p quorum)
+
+pub over_decides : (stage : Stage) (work : Work) (p : Progress) (view : View) → GoesOver stage work p view → IsDecided stage p
+over_decides stage work p view (over_first first lost) = at_first stage p first (loss_decides p lost)
+over_decides stage work p view (over_repair second reads lost) = at_second stage p second (loss_decides p lost)
+over_decides stage work p view (over_look looks le) = at_look stage p looks
+
+-- a call that looks never waits once a Here has counted
+goes_on_looking : (p : Progress) → go_over p ≡ Wait → ⊥
+goes_on_looking p = by (nat_lt p.lookups 4)
+  where
+    by : (b : Bool) → (if b then Look else Moved) ≡ Wait → ⊥
+    by true e = cc
+    by false e = cc
+
+enters_at_once : (o : Option Quorum) (work : Work) (p : Progress) (view : View) (seen : ℕ) → enter o work p view seen ≡ Wait → ⊥
+enters_at_once None work p view seen e = cc
+enters_at_once (Some member) ToRead p view seen e = cc
+enters_at_once (Some member) (ToWrite value) p view seen e = by (seen == 18446744073709551615) e
+  where
+    by : (b : Bool) → (if b then NumbersOut else Enter (leg_under view member (next_ticket view seen p))) ≡ Wait → ⊥
+    by true k = cc
+    by false k = cc
+
+pub looking_never_waits : (stage : Stage) (work : Work) (best : Option Stamp) (p : Progress) (view : View) (seen : ℕ) → stage ≡ Looking → verdict_at stage work best p view seen ≡ Wait → ⊥
+looking_never_waits Looking work best p view seen is e = by (nat_lt p.leg.epoch view.epoch) e
+  where
+    by : (b : Bool) → (if b then enter (member_of view.policy p.at.0) work p view seen else go_over p) ≡ Wait → ⊥
+    by true k = enters_at_once (member_of view.policy p.at.0) work p view seen k
+    by false k = goes_on_looking p k
+looking_never_waits stage work best p view seen is e = cc
+
+pub open_at : (stage : Stage) (p : Progress) → Waits stage p → (stage ≡ Looking → ⊥) → IsOpen stage p
+open_at Looking p waits looks = looks refl
+open_at stage p waits looks = waits
+
+-- ---- a phase in which nothing counted is undecided, and a call whose answers decide nothing waits
 
 -- more than f replicas are asked
 reads_many : (policy : Policy) (member : Quorum) (at : ℕ) → IsQuorumPolicy policy → member_of policy at ≡ Some member → 2 * faults_of policy + 1 ≤ length (centres_of member.read)
@@ -111,10 +145,7 @@ no_stamp (Some found) is = absurd (cc)
 
 first_none : (s : Store) (stage : Stage) (work : Work) (call : CallState) → stage ≡ First → work ≡ ToRead → call.best ≡ None → StrongCounted s work stage call → NoneCounted call.progress.phase
 first_none s First ToRead call a b none counted = (subst (FirstCounted s call) none counted).0
-first_none s First (ToWrite value) call a b none counted = absurd (cc)
-first_none s Second work call a b none counted = absurd (cc)
-first_none s Looking work call a b none counted = absurd (cc)
-first_none s Ended work call a b none counted = absurd (cc)
+first_none s stage work call a b none counted = absurd (cc)
 
 -- a call that does nothing waits
 pub still_waits : (key : KeyId) (s : Store) (g : Ghost) (call : CallState) → OpeningsAreBacked key s g → HasPolicy key s g call → StrongCounted s call.work call.progress.stage call → WaitsWhen call.progress.stage call.work (best_stamp call.best) call.progress → (call.progress.stage ≡ Ended → ⊥)

@@ -1,25 +1,10 @@
 -- Writes that wait: in the first phase with one Yes of three, in the second one once two said Yes, and for a Here once two were Gone.
-use Rattle.std.proofs.Common.{ℕ, List, [], ◌∷◌, ◌++◌, refl, arith}
-use Rattle.std.specs.Prelude.{false, None}
-use Rattle.span_base.specs.declared.dc_set.DcSet.{DcSet}
-use Rattle.span_base.specs.DcSet.{no_centre, centres_of, centres_below}
-use Rattle.ticket_rules.specs.Stamp.{stamp_zero}
-use Rattle.strong_proxy.specs.declared.progress.Stage.{Stage}
-use Rattle.strong_proxy.specs.declared.progress.Stage.TheVariants.{First, Second, Looking}
-use Rattle.strong_proxy.specs.declared.state.Work.TheVariants.{ToWrite}
-use Rattle.strong_proxy.specs.declared.state.CallState.{CallState}
-use Rattle.strong_proxy.specs.Rule.{step as strong_step, opened_as}
-use Rattle.epoch_directory.specs.Tables.{table_fault}
+use Rattle.std.proofs.Common.{ℕ, refl, arith, false, None}
+use Rattle.register_law.proofs.Words.{centres_below, centres_of, no_centre, DcSet, stamp_zero, opened_as, Stage, First, Looking, Second, CallState, ToWrite, table_fault, run, run_of, starts, opening, proxy_takes, step, IsWaiting}
+use Rattle.strong_proxy.specs.Rule.{step as strong_step}
 use Rattle.migration.specs.Move.{step as move_step}
 use Rattle.run_marks.specs.declared.mark.Work.TheVariants as w
-use Rattle.world_core.specs.declared.event.Event.{Event}
-use Rattle.world_core.specs.declared.event.Event.TheVariants.{Start}
-use Rattle.world_core.specs.State.{opening}
-use Rattle.world_core.specs.Starting.{starts}
-use Rattle.world_core.specs.Step.{proxy_takes, step}
-use Rattle.world_core.specs.Run.{run, run_of}
-use Rattle.world_core.specs.Rows.{two_proxies, deliveries, three, member, hi, cc_value, again, call, key, dc, stamp}
-use Rattle.register_law.specs.Waiting.{IsWaiting}
+use Rattle.world_core.specs.Rows.{two_proxies, three, member, hi, cc_value, call, key, dc, stamp}
 use Rattle.register_law.specs.WaitingRows.{one_yes, two_yes, two_gone}
 
 -- in this phase, these having said Yes

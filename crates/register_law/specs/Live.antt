@@ -175,18 +175,22 @@ abbrev pub HasTicket : Work → List Mark → Tag → Stamp → Type 0
 HasTicket ToRead marks tag stamp = Unit {0}
 HasTicket (ToWrite value) marks tag stamp = IsLatestTicket marks tag stamp
 
+-- of one read or write of the key
+pub record CallBacked (key : KeyId) (s : Store) (g : Ghost) (call : CallState) : Type 0 where
+  pub request : (request : Message) → WasSent s request → IsSome (request_key request) → IsSamePoint (tag_of request) call.progress.phase.tag → IsStrongRequest call.work call.progress.stage call request
+  pub counted : StrongCounted s call.work call.progress.stage call
+  pub within : (d : ℕ) → has call.progress.phase.good d ≡ true → has call.progress.phase.asked d ≡ true
+  pub policy : HasPolicy key s g call
+  pub leg : call.progress.stage ≡ First → IsNotedLeg g call
+  pub begun : (b : Begun) → g.begun call.progress.phase.tag.call ≡ Some b → IsWork call.work b.work
+  pub repair : (b : Begun) → g.begun call.progress.phase.tag.call ≡ Some b → MayRepair key s call.work call.progress.stage call.best b.floor
+  pub store : (tag : Tag) (stamp : Stamp) (value : List ℕ) → WasSent s (m.Store tag key stamp value) → tag.call ≡ call.progress.phase.tag.call → StoresOnly call.work call.progress.stage call.progress.leg.ticket stamp
+  pub epochs : (tag : Tag) (stamp : Stamp) → WasSent s (m.Ask tag key stamp) → tag.call ≡ call.progress.phase.tag.call → stamp.epoch ≤ call.progress.leg.epoch
+  pub ticket : HasTicket call.work g.marks call.progress.phase.tag call.progress.leg.ticket
+
 -- of the reads and the writes of the key
-pub record StrongCallsAreBacked (key : KeyId) (s : Store) (g : Ghost) : Type 0 where
-  pub request : (p : ℕ) (handle : Handle) (call : CallState) (request : Message) → IsLiveStrong key s p handle call → WasSent s request → IsSome (request_key request) → IsSamePoint (tag_of request) call.progress.phase.tag → IsStrongRequest call.work call.progress.stage call request
-  pub counted : (p : ℕ) (handle : Handle) (call : CallState) → IsLiveStrong key s p handle call → StrongCounted s call.work call.progress.stage call
-  pub within : (p : ℕ) (handle : Handle) (call : CallState) (d : ℕ) → IsLiveStrong key s p handle call → has call.progress.phase.good d ≡ true → has call.progress.phase.asked d ≡ true
-  pub policy : (p : ℕ) (handle : Handle) (call : CallState) → IsLiveStrong key s p handle call → HasPolicy key s g call
-  pub leg : (p : ℕ) (handle : Handle) (call : CallState) → IsLiveStrong key s p handle call → call.progress.stage ≡ First → IsNotedLeg g call
-  pub begun : (p : ℕ) (handle : Handle) (call : CallState) (b : Begun) → IsLiveStrong key s p handle call → g.begun call.progress.phase.tag.call ≡ Some b → IsWork call.work b.work
-  pub repair : (p : ℕ) (handle : Handle) (call : CallState) (b : Begun) → IsLiveStrong key s p handle call → g.begun call.progress.phase.tag.call ≡ Some b → MayRepair key s call.work call.progress.stage call.best b.floor
-  pub store : (p : ℕ) (handle : Handle) (call : CallState) (tag : Tag) (stamp : Stamp) (value : List ℕ) → IsLiveStrong key s p handle call → WasSent s (m.Store tag key stamp value) → tag.call ≡ call.progress.phase.tag.call → StoresOnly call.work call.progress.stage call.progress.leg.ticket stamp
-  pub epochs : (p : ℕ) (handle : Handle) (call : CallState) (tag : Tag) (stamp : Stamp) → IsLiveStrong key s p handle call → WasSent s (m.Ask tag key stamp) → tag.call ≡ call.progress.phase.tag.call → stamp.epoch ≤ call.progress.leg.epoch
-  pub ticket : (p : ℕ) (handle : Handle) (call : CallState) → IsLiveStrong key s p handle call → HasTicket call.work g.marks call.progress.phase.tag call.progress.leg.ticket
+abbrev pub StrongCallsAreBacked : KeyId → Store → Ghost → Type 0
+StrongCallsAreBacked key s g = (p : ℕ) (handle : Handle) (call : CallState) → IsLiveStrong key s p handle call → CallBacked key s g call
 
 -- an epoch that the move goes to
 pub record IsTargetOf (key : KeyId) (s : Store) (g : Ghost) (old : ℕ) (new : Epoch) : Type 0 where
@@ -217,8 +221,12 @@ MoveBacked key s g phase (stage.Seeding old new frozen seeded top_gone) =
 MoveBacked key s g phase (stage.Switching old new frozen seeded) = SeedsBacked key s g old new frozen seeded × IsSettled key s g new.number seeded
 MoveBacked key s g phase stage.Ended = Unit {0}
 
+-- of one move of the key
+pub record OneMove (key : KeyId) (s : Store) (g : Ghost) (call : Moving) : Type 0 where
+  pub request : (request : Message) → WasSent s request → IsSome (request_key request) → IsSamePoint (tag_of request) call.phase.tag → IsMoveRequest call.stage call request
+  pub within : (d : ℕ) → has call.phase.good d ≡ true → has call.phase.asked d ≡ true
+  pub backed : MoveBacked key s g call.phase call.stage
+
 -- of the moves of the key
-pub record MovesAreBacked (key : KeyId) (s : Store) (g : Ghost) : Type 0 where
-  pub request : (p : ℕ) (handle : Handle) (call : Moving) (request : Message) → IsLiveMove key s p handle call → WasSent s request → IsSome (request_key request) → IsSamePoint (tag_of request) call.phase.tag → IsMoveRequest call.stage call request
-  pub within : (p : ℕ) (handle : Handle) (call : Moving) (d : ℕ) → IsLiveMove key s p handle call → has call.phase.good d ≡ true → has call.phase.asked d ≡ true
-  pub backed : (p : ℕ) (handle : Handle) (call : Moving) → IsLiveMove key s p handle call → MoveBacked key s g call.phase call.stage
+abbrev pub MovesAreBacked : KeyId → Store → Ghost → Type 0
+MovesAreBacked key s g = (p : ℕ) (handle : Handle) (call : Moving) → IsLiveMove key s p handle call → OneMove key s g call

@@ -1,5 +1,5 @@
 -- What each message that was sent rests on.
-use Rattle.std.specs.Prelude.{◌≡◌, ℕ, ◌<◌, ◌≤◌, true, List, Some, Contains}
+use Rattle.std.specs.Prelude.{◌≡◌, ℕ, ◌<◌, ◌≤◌, Bool, true, List, length, Some, Contains}
 use Rattle.span_base.specs.declared.ids.KeyId.{KeyId}
 use Rattle.span_base.specs.declared.dc_set.DcSet.{DcSet}
 use Rattle.span_base.specs.declared.policy.Policy.{Policy}
@@ -60,3 +60,15 @@ pub record MessagesAreBacked (key : KeyId) (s : Store) (g : Ghost) : Type 0 wher
   pub here_opened : (tag : Tag) (epoch : ℕ) (policy : Policy) (latest_epoch : ℕ) (latest_policy : Policy) → WasSent s (m.Here tag key epoch policy latest_epoch latest_policy) → HereBacked key s g epoch policy latest_epoch latest_policy
   pub switch_sent : (tag : Tag) (old new : ℕ) → WasSent s (m.Switch tag key old new) → SwitchBacked key s g old new
   pub switched_opened : (tag : Tag) (old new epoch : ℕ) → WasSent s (m.Switch tag key old new) → WasSent s (m.Switched tag key true epoch) → Contains g.opened new
+
+-- a Switch with this tag was sent
+pub record SwitchAsked (s : Store) (tag : Tag) (key : KeyId) : Type 0 where
+  pub old : ℕ
+  pub new : ℕ
+  pub sent : WasSent s (m.Switch tag key old new)
+
+-- the key exists, and what the directory told of any key answers a request of the same key
+pub record KeysAgree (key : KeyId) (s : Store) : Type 0 where
+  pub exists : key.0 < length s.directory.current
+  pub here_asked : (tag : Tag) (at : KeyId) (epoch : ℕ) (policy : Policy) (newest : ℕ) (newest_policy : Policy) → WasSent s (m.Here tag at epoch policy newest newest_policy) → WasSent s (m.Lookup tag at)
+  pub switched_asked : (tag : Tag) (at : KeyId) (done : Bool) (epoch : ℕ) → WasSent s (m.Switched tag at done epoch) → SwitchAsked s tag at

@@ -26,12 +26,7 @@ request_key (m.Seed tag key epoch stamp value) = Some key
 request_key (m.Push tag key stamp onward value) = Some key
 request_key (m.Lookup tag key) = Some key
 request_key (m.Switch tag key closing opening) = Some key
-request_key (m.Have tag replica version mark value) = None
-request_key (m.Yes tag replica) = None
-request_key (m.Held tag replica stamp) = None
-request_key (m.Gone tag replica epoch) = None
-request_key (m.Here tag key epoch policy latest_epoch latest_policy) = None
-request_key (m.Switched tag key done epoch) = None
+request_key _ = None
 
 -- the tags are of one phase of one call
 pub record IsSamePoint (a b : Tag) : Type 0 where

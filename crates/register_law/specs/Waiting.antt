@@ -73,9 +73,7 @@ UnansweredWait =
 -- the live call is one that was begun with this work
 abbrev pub IsKindOf : LiveCall → Asked → Type 0
 IsKindOf (live_call.Strong call) asked = IsWork call.work asked
-IsKindOf (live_call.Eventual call) asked = is_register_work asked ≡ false
-IsKindOf (live_call.StrongMove call) asked = is_register_work asked ≡ false
-IsKindOf (live_call.EventualMove call) asked = is_register_work asked ≡ false
+IsKindOf _ asked = is_register_work asked ≡ false
 
 -- the call lives
 pub record IsLiveCall (s : Store) (call : Call) (asked : Asked) : Type 0 where
