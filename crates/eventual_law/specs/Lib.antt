@@ -1,0 +1,11 @@
+pub mod Keys
+pub mod Pushes
+pub mod Puts
+pub mod Opened
+pub mod Laws
+pub mod Kinds
+pub mod Known
+pub mod Epochs
+pub mod Told
+pub mod Held
+pub mod Quiet
