@@ -1,7 +1,7 @@
 -- The four calls that append a record: what a crash leaves at each moment.
-use Rattle.std.proofs.Common.{ℕ, ◌≡◌, ◌≢◌, ◌+◌, inl, inr, List, [], ◌∷◌, ◌++◌, length, drop, get_or, refl, sym, ◌∙◌, ap, subst, arith, append_assoc, length-append}
+use Rattle.std.proofs.Common.{ℕ, ◌≡◌, ◌≢◌, ◌+◌, ◌≤◌, inl, inr, List, [], ◌∷◌, ◌++◌, length, drop, get_or, refl, sym, ◌∙◌, ap, subst, arith, append_assoc, length-append}
 use Rattle.wire_msg.specs.declared.message.Message.{Message}
-use Rattle.replica_journal.specs.Disk.{History, Wrote, Synced, put, bytes_of, Torn, IsImage, GoesOn, AtEachMoment}
+use Rattle.replica_journal.specs.Disk.{History, Wrote, Synced, put, bytes_of, Torn, IsImage, IsLawfulHistory, GoesOn, AtEachMoment}
 use Rattle.replica_journal.specs.Records.{IsRecord, body_of, records_of, IsClosed, IsJournal, IsAtRest, IsBeforeOrAfter}
 use Rattle.replica_journal.proofs.Puts.{torn_behind, put_behind, torn_gate, put_gate}
 use Rattle.replica_journal.proofs.Moments.{at_start, at_next, goes_on_here, goes_on_next}
@@ -36,7 +36,7 @@ module _ (keys : ℕ) (history : History) (place : ℕ) (messages : List Message
   abbrev pub P : List ℕ → Type 0
   P = IsBeforeOrAfter keys messages message
 
-  written_leaves : (size : ℕ) (landed image : List ℕ) → IsImage (written size landed) image → IsJournal keys image messages
+  pub written_leaves : (size : ℕ) (landed image : List ℕ) → IsImage (written size landed) image → IsJournal keys image messages
   written_leaves size landed image is =
       let torn : Torn (length (records_of messages) + 1) size (records_of messages ++ stands.0 ∷ stands.1) image =
       subst (λ (p : ℕ). Torn (p + 1) size (records_of messages ++ stands.0 ∷ stands.1) image) rest.gate
@@ -95,6 +95,20 @@ module _ (keys : ℕ) (history : History) (place : ℕ) (messages : List Message
   pub at_done : AtEachMoment history done P
   at_done = at_next history (opened (1 ∷ [])) Synced P (at_opened (1 ∷ []))
       (λ image is. inr (inr (subst (λ (b : List ℕ). IsJournal keys b (messages ++ message ∷ [])) (sym is) done_rests.journal)))
+
+  pub lawful_written : (landed : List ℕ) → length landed ≤ length piece → IsLawfulHistory history → IsLawfulHistory (written (length piece) landed)
+  lawful_written landed fits lawful = (omega (arith, rest.gate, ap length bytes, length-append (records_of messages) (stands.0 ∷ stands.1)), fits, lawful)
+
+  pub lawful_stage : IsLawfulHistory history → IsLawfulHistory stage
+  lawful_stage lawful = lawful_written piece (omega arith) lawful
+
+  pub lawful_opened : (landed : List ℕ) → length landed ≤ 1 → IsLawfulHistory history → IsLawfulHistory (opened landed)
+  lawful_opened landed fits lawful =
+      let behind : List ℕ = body_of message ++ 0 ∷ drop (length piece) stands.1 in
+      (omega (arith, rest.gate, ap length staged, length-append (records_of messages) (stands.0 ∷ behind)), fits, lawful_stage lawful)
+
+  pub lawful_done : IsLawfulHistory history → IsLawfulHistory done
+  lawful_done lawful = lawful_opened (1 ∷ []) (omega arith) lawful
 
   pub on_written : (size : ℕ) (landed : List ℕ) → GoesOn history (written size landed)
   on_written size landed = goes_on_next history history (Wrote (place + 1) size landed) (goes_on_here history)

@@ -4,11 +4,11 @@ use Rattle.span_base.specs.declared.sink.DeviceFault.{DeviceFault}
 use Rattle.span_base.specs.declared.sink.DeviceFault.TheVariants as device
 use Rattle.wire_msg.specs.declared.message.Message.{Message}
 use Rattle.replica_journal.specs.declared.disk.Failed.{Failed}
-use Rattle.replica_journal.specs.Disk.{History, Writes, Syncs, GoesOn, AtEachMoment}
+use Rattle.replica_journal.specs.Disk.{History, Writes, Syncs, GoesOn, AtEachMoment, IsLawfulHistory}
 use Rattle.replica_journal.specs.Records.{IsRecord, IsAtRest, IsBeforeOrAfter, body_of}
 use Rattle.replica_journal.specs.Appended.{Appended}
 use Rattle.replica_journal.proofs.Moments.{goes_on_here}
-use Rattle.replica_journal.proofs.Appending.{written, stage, opened, done, stage_rests, done_rests, at_first, at_written, at_stage, at_opened, at_done, on_written, on_stage, on_opened, on_done}
+use Rattle.replica_journal.proofs.Appending.{written, stage, opened, done, stage_rests, done_rests, at_first, at_written, at_stage, at_opened, at_done, on_written, on_stage, on_opened, on_done, lawful_written, lawful_stage, lawful_opened, lawful_done}
 
 some_same : (a b : History) → Some a ≡ Some b → a ≡ b
 some_same a b is = cc
@@ -24,11 +24,11 @@ module _ (keys : ℕ) (before after : History) (place : ℕ) (messages : List Me
   abbrev Leaves : History → Result (Unit {0}) DeviceFault → Type 0
   Leaves now result = Appended keys before now place (length piece) messages message result
 
-  failed : (now : History) → GoesOn before now → AtEachMoment before now (IsBeforeOrAfter keys messages message) → Leaves now (Err device.Failed)
-  failed now on moments = record { on = on; moments = moments; done = tt; undone = λ e. absurd (not_memory (Err device.Failed) refl e) }
+  failed : (now : History) → GoesOn before now → (IsLawfulHistory before → IsLawfulHistory now) → AtEachMoment before now (IsBeforeOrAfter keys messages message) → Leaves now (Err device.Failed)
+  failed now on lawful moments = record { on = on; lawful = lawful; moments = moments; done = tt; undone = λ e. absurd (not_memory (Err device.Failed) refl e) }
 
-  lacked : (now : History) → GoesOn before now → AtEachMoment before now (IsBeforeOrAfter keys messages message) → IsAtRest keys now place messages → Leaves now (Err device.NoMemory)
-  lacked now on moments rests = record { on = on; moments = moments; done = tt; undone = λ e. rests }
+  lacked : (now : History) → GoesOn before now → (IsLawfulHistory before → IsLawfulHistory now) → AtEachMoment before now (IsBeforeOrAfter keys messages message) → IsAtRest keys now place messages → Leaves now (Err device.NoMemory)
+  lacked now on lawful moments rests = record { on = on; lawful = lawful; moments = moments; done = tt; undone = λ e. rests }
 
   -- the record isn't written
   pub first_fails : (t : Option History) (fault : DeviceFault) → t ≡ Some after → Writes (Some before) t (place + 1) piece (Err fault) → Leaves after (Err fault)
@@ -36,10 +36,11 @@ module _ (keys : ℕ) (before after : History) (place : ℕ) (messages : List Me
       subst (λ (h : History). Leaves h (Err device.Failed)) (some_same (written keys before place messages message piece rest sound spelled (length piece) wrote.0) after (sym wrote.2 ∙ is))
       (failed (written keys before place messages message piece rest sound spelled (length piece) wrote.0)
       (on_written keys before place messages message piece rest sound spelled (length piece) wrote.0)
+      (lawful_written keys before place messages message piece rest sound spelled wrote.0 wrote.1)
       (at_written keys before place messages message piece rest sound spelled (length piece) wrote.0))
   first_fails t device.NoMemory is wrote =
       subst (λ (h : History). Leaves h (Err device.NoMemory)) (some_same before after (sym wrote ∙ is))
-      (lacked before (goes_on_here before) (at_first keys before place messages message piece rest sound spelled) rest)
+      (lacked before (goes_on_here before) (λ lawful. lawful) (at_first keys before place messages message piece rest sound spelled) rest)
 
   -- it isn't synced
   pub sync_fails : (t u : Option History) (fault : Failed) → Writes (Some before) t (place + 1) piece (Ok tt) → Syncs t u (Err fault) → u ≡ Some after → Leaves after (Err device.Failed)
@@ -48,6 +49,7 @@ module _ (keys : ℕ) (before after : History) (place : ℕ) (messages : List Me
       subst (λ (h : History). Leaves h (Err device.Failed)) (some_same (written keys before place messages message piece rest sound spelled (length piece) piece) after (sym told ∙ is))
       (failed (written keys before place messages message piece rest sound spelled (length piece) piece)
       (on_written keys before place messages message piece rest sound spelled (length piece) piece)
+      (lawful_stage keys before place messages message piece rest sound spelled)
       (at_written keys before place messages message piece rest sound spelled (length piece) piece))
 
   pub stage_told : (t u : Option History) → Writes (Some before) t (place + 1) piece (Ok tt) → Syncs t u (Ok tt) → u ≡ Some (stage keys before place messages message piece rest sound spelled)
@@ -60,12 +62,14 @@ module _ (keys : ℕ) (before after : History) (place : ℕ) (messages : List Me
       subst (λ (h : History). Leaves h (Err device.Failed)) (some_same (opened keys before place messages message piece rest sound spelled wrote.0) after (sym wrote.2 ∙ is))
       (failed (opened keys before place messages message piece rest sound spelled wrote.0)
       (on_opened keys before place messages message piece rest sound spelled wrote.0)
+      (lawful_opened keys before place messages message piece rest sound spelled wrote.0 wrote.1)
       (at_opened keys before place messages message piece rest sound spelled wrote.0))
   second_fails t u device.NoMemory told write is =
       let wrote : u ≡ Some (stage keys before place messages message piece rest sound spelled) = subst (λ (o : Option History). Writes o u place (1 ∷ []) (Err device.NoMemory)) told write in
       subst (λ (h : History). Leaves h (Err device.NoMemory)) (some_same (stage keys before place messages message piece rest sound spelled) after (sym wrote ∙ is))
       (lacked (stage keys before place messages message piece rest sound spelled)
       (on_stage keys before place messages message piece rest sound spelled)
+      (lawful_stage keys before place messages message piece rest sound spelled)
       (at_stage keys before place messages message piece rest sound spelled)
       (stage_rests keys before place messages message piece rest sound spelled))
 
@@ -80,6 +84,7 @@ module _ (keys : ℕ) (before after : History) (place : ℕ) (messages : List Me
       subst (λ (h : History). Leaves h (Err device.Failed)) (some_same (opened keys before place messages message piece rest sound spelled (1 ∷ [])) after (sym now ∙ is))
       (failed (opened keys before place messages message piece rest sound spelled (1 ∷ []))
       (on_opened keys before place messages message piece rest sound spelled (1 ∷ []))
+      (lawful_done keys before place messages message piece rest sound spelled)
       (at_opened keys before place messages message piece rest sound spelled (1 ∷ [])))
 
   -- all is done
@@ -88,6 +93,7 @@ module _ (keys : ℕ) (before after : History) (place : ℕ) (messages : List Me
       let now : u ≡ Some (done keys before place messages message piece rest sound spelled) = subst (λ (o : Option History). Syncs o u (Ok tt)) told synced in
       subst (λ (h : History). Leaves h (Ok tt)) (some_same (done keys before place messages message piece rest sound spelled) after (sym now ∙ is)) (record {
         on = on_done keys before place messages message piece rest sound spelled;
+        lawful = lawful_done keys before place messages message piece rest sound spelled;
         moments = at_done keys before place messages message piece rest sound spelled;
         done = done_rests keys before place messages message piece rest sound spelled;
         undone = λ e. absurd (ok_err (Ok tt) refl e);

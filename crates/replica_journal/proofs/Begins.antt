@@ -1,23 +1,14 @@
 -- What is told of a disk at each way out of the beginning of the opening.
-use Rattle.std.proofs.Common.{ℕ, ◌≡◌, ◌+◌, ◌<◌, ◌≤◌, inl, inr, List, [], ◌∷◌, length, Option, Some, None, Result, Ok, Err, refl, ◌∙◌, ap, subst, arith}
+use Rattle.std.proofs.Common.{ℕ, ◌≡◌, ◌+◌, ◌<◌, ◌≤◌, inl, inr, List, [], ◌∷◌, length, Option, Some, None, Result, Ok, Err, ◌∙◌, ap, subst, arith}
 use Rattle.std.proofs.lemmas.List.{drop_all}
 use Rattle.span_base.specs.declared.sink.DeviceFault.{DeviceFault}
 use Rattle.span_base.specs.declared.sink.DeviceFault.TheVariants as device
 use Rattle.replica_journal.specs.declared.disk.Failed.{Failed}
 use Rattle.replica_journal.specs.declared.open_fault.OpenCause.{OpenCause}
-use Rattle.replica_journal.specs.Disk.{History, Wrote, Synced, synced, bytes_of, IsImage, Writes, Syncs, TellsLength, GoesOn, AtEachMoment}
+use Rattle.replica_journal.specs.Disk.{History, Wrote, Synced, synced, bytes_of, IsImage, IsLawfulHistory, Writes, Syncs, TellsLength, GoesOn, AtEachMoment}
 use Rattle.replica_journal.specs.Beginning.{IsReady, IsNoWorse, Begins}
+use Rattle.replica_journal.proofs.Crashes.{synced_bytes, synced_lawful, synced_safe}
 use Rattle.replica_journal.proofs.Moments.{at_start, at_next, goes_on_here, goes_on_next}
-
-synced_bytes : (history : History) → bytes_of (synced history) ≡ bytes_of history
-synced_bytes [] = refl
-synced_bytes (Wrote at size landed ∷ history) = refl
-synced_bytes (Synced ∷ history) = refl
-
-synced_safe : (history : History) (image : List ℕ) → IsImage (synced history) image → image ≡ bytes_of (synced history)
-synced_safe [] image is = is
-synced_safe (Wrote at size landed ∷ history) image is = is
-synced_safe (Synced ∷ history) image is = is
 
 at_first : (before : History) → AtEachMoment before before (IsNoWorse before)
 at_first before = at_start before (IsNoWorse before) (λ image is. inl (inl is))
@@ -48,6 +39,9 @@ module _ (before : History) (short : length (bytes_of before) ≤ 1) where
   pub on_wrote : (landed : List ℕ) → GoesOn before (wrote landed)
   on_wrote landed = goes_on_next before (synced before) (Wrote 0 1 landed) (on_synced before)
 
+  pub lawful_wrote : (landed : List ℕ) → length landed ≤ 1 → IsLawfulHistory before → IsLawfulHistory (wrote landed)
+  lawful_wrote landed fits lawful = (omega arith, fits, synced_lawful before lawful)
+
   abbrev pub closed : History
   closed = Synced ∷ wrote (0 ∷ [])
 
@@ -70,12 +64,12 @@ module _ (before : History) (short : length (bytes_of before) ≤ 1) where
 -- the first sync fails
 pub sync_fails : (t u : Option History) (fault : Failed) (cause : OpenCause) → Syncs t u (Err fault) → Begins t u (Err cause)
 sync_fails None u fault cause syncs = syncs
-sync_fails (Some before) u fault cause syncs = (before, syncs, record { on = goes_on_here before; moments = at_first before; ready = tt })
+sync_fails (Some before) u fault cause syncs = (before, syncs, record { on = goes_on_here before; lawful = λ l. l; moments = at_first before; ready = tt })
 
 -- the length isn't told
 pub len_fails : (t u v : Option History) (cause : OpenCause) → Syncs t u (Ok tt) → v ≡ u → Begins t v (Err cause)
 len_fails None u v cause syncs same = same ∙ syncs
-len_fails (Some before) u v cause syncs same = (synced before, same ∙ syncs, record { on = on_synced before; moments = at_synced before; ready = tt })
+len_fails (Some before) u v cause syncs same = (synced before, same ∙ syncs, record { on = on_synced before; lawful = synced_lawful before; moments = at_synced before; ready = tt })
 
 -- the disk has more than one byte
 pub long_ready : (t u v : Option History) (end : ℕ) → Syncs t u (Ok tt) → v ≡ u → TellsLength u (Ok end) → 1 < end → Begins t v (Ok end)
@@ -86,6 +80,7 @@ long_ready (Some before) u v end syncs same tells long =
       same ∙ syncs,
       record {
         on = on_synced before;
+        lawful = synced_lawful before;
         moments = at_synced before;
         ready = record { safe = synced_safe before; end_is = is; bytes = inl (long, synced_bytes before) };
       },
@@ -98,10 +93,10 @@ write_fails (Some before) u v w end device.Failed cause syncs same tells short w
     let is : end ≡ length (bytes_of (synced before)) = subst (λ (o : Option History). TellsLength o (Ok end)) syncs tells in
     let few : length (bytes_of before) ≤ 1 = omega (arith, is, short, ap length (synced_bytes before)) in
     let now : (landed : List ℕ) × (length landed ≤ 1) × (w ≡ Some (Wrote 0 1 landed ∷ synced before)) = subst (λ (o : Option History). Writes o w 0 (0 ∷ []) (Err device.Failed)) (same ∙ syncs) writes in
-    (Wrote 0 1 now.0 ∷ synced before, now.2, record { on = on_wrote before few now.0; moments = at_wrote before few now.0; ready = tt })
+    (Wrote 0 1 now.0 ∷ synced before, now.2, record { on = on_wrote before few now.0; lawful = lawful_wrote before few now.0 now.1; moments = at_wrote before few now.0; ready = tt })
 write_fails (Some before) u v w end device.NoMemory cause syncs same tells short writes =
     let now : w ≡ Some (synced before) = subst (λ (o : Option History). Writes o w 0 (0 ∷ []) (Err device.NoMemory)) (same ∙ syncs) writes in
-    (synced before, now, record { on = on_synced before; moments = at_synced before; ready = tt })
+    (synced before, now, record { on = on_synced before; lawful = synced_lawful before; moments = at_synced before; ready = tt })
 
 -- what is told once it is written
 wrote_told : (before : History) (u v w : Option History) → u ≡ Some (synced before) → v ≡ u → Writes v w 0 (0 ∷ []) (Ok tt) → w ≡ Some (Wrote 0 1 (0 ∷ []) ∷ synced before)
@@ -120,7 +115,7 @@ last_fails (Some before) u v w x end fault cause syncs same tells short writes l
     let is : end ≡ length (bytes_of (synced before)) = subst (λ (o : Option History). TellsLength o (Ok end)) syncs tells in
     let few : length (bytes_of before) ≤ 1 = omega (arith, is, short, ap length (synced_bytes before)) in
     let now : x ≡ Some (Wrote 0 1 (0 ∷ []) ∷ synced before) = subst (λ (o : Option History). Syncs o x (Err fault)) (wrote_told before u v w syncs same writes) last in
-    (Wrote 0 1 (0 ∷ []) ∷ synced before, now, record { on = on_wrote before few (0 ∷ []); moments = at_wrote before few (0 ∷ []); ready = tt })
+    (Wrote 0 1 (0 ∷ []) ∷ synced before, now, record { on = on_wrote before few (0 ∷ []); lawful = lawful_wrote before few (0 ∷ []) (omega arith); moments = at_wrote before few (0 ∷ []); ready = tt })
 
 -- an empty journal
 pub closed_told : (t u v w x : Option History) (end : ℕ) → Syncs t u (Ok tt) → v ≡ u → TellsLength u (Ok end) → end ≤ 1 → Writes v w 0 (0 ∷ []) (Ok tt) → Syncs w x (Ok tt) → Begins t x (Ok 1)
@@ -129,4 +124,4 @@ closed_told (Some before) u v w x end syncs same tells short writes last =
     let is : end ≡ length (bytes_of (synced before)) = subst (λ (o : Option History). TellsLength o (Ok end)) syncs tells in
     let few : length (bytes_of before) ≤ 1 = omega (arith, is, short, ap length (synced_bytes before)) in
     let now : x ≡ Some (closed before few) = subst (λ (o : Option History). Syncs o x (Ok tt)) (wrote_told before u v w syncs same writes) last in
-    (closed before few, now, record { on = on_closed before few; moments = at_closed before few; ready = closed_ready before few })
+    (closed before few, now, record { on = on_closed before few; lawful = lawful_wrote before few (0 ∷ []) (omega arith); moments = at_closed before few; ready = closed_ready before few })

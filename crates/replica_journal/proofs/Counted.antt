@@ -1,16 +1,16 @@
 -- A disk in memory counts its faults, and is calm where no call is still to fail.
-use Rattle.std.proofs.Common.{ℕ, ◌≡◌, ◌+◌, ◌≤◌, Bool, true, false, ◌&&◌, ◌==◌, nat_lt, List, [], ◌∷◌, refl, sym, ◌∙◌, ap, subst, inl, inr, arith}
+use Rattle.std.proofs.Common.{ℕ, ◌≡◌, ◌+◌, ◌-◌, ◌≤◌, Bool, true, false, ◌&&◌, ◌==◌, nat_lt, List, [], ◌∷◌, refl, sym, ◌∙◌, ap, subst, inl, inr, arith}
 use Rattle.std.specs.List.{list_all, list_any}
-use Rattle.std.proofs.lemmas.Bool.{and_parts, or_parts, or_from, both_ways, true≢false, false≢true, cases_lt, ltb-true, lt-ltb, le-ltb, eqb-false, ne_eqb}
+use Rattle.std.proofs.lemmas.Bool.{and_parts, or_parts, or_from, both_ways, true≢false, false≢true, cases_lt, ltb-true, lt-ltb, le-ltb, eqb-true, eqb-false, ne_eqb}
 use Rattle.std.proofs.lemmas.Bool.Decides.{nat_tests}
 use Rattle.span_base.specs.Counts.{next_count, Rose}
 use Rattle.replica_journal.specs.Calls.{CallPlan, next_fails, is_calm, after_call}
 use Rattle.replica_journal.specs.Counting.{Counts}
 
-grows : (n : ℕ) → n ≤ next_count n
+pub grows : (n : ℕ) → n ≤ next_count n
 grows n = grind (arith, nat_tests)
 
-by_one : (n : ℕ) → next_count n ≤ n + 1
+pub by_one : (n : ℕ) → next_count n ≤ n + 1
 by_one n = grind (arith, nat_tests)
 
 rises : (n : ℕ) → Rose n (next_count n)
@@ -25,33 +25,37 @@ test_same x m n lo hi ne =
       | inr above ↦ le-ltb x n (omega (arith, apart)) ∙ sym (le-ltb x m above)
     ]
 
-all_same : (m n : ℕ) (xs : List ℕ) → m ≤ n → n ≤ m + 1 → list_any (λ x. x == m) xs ≡ false → list_all (λ x. nat_lt x n) xs ≡ list_all (λ x. nat_lt x m) xs
+pub all_same : (m n : ℕ) (xs : List ℕ) → m ≤ n → n ≤ m + 1 → list_any (λ x. x == m) xs ≡ false → list_all (λ x. nat_lt x n) xs ≡ list_all (λ x. nat_lt x m) xs
 all_same m n [] lo hi none = refl
 all_same m n (x ∷ xs) lo hi none =
     let parts : ((x == m) ≡ false) × (list_any (λ y. y == m) xs ≡ false) = or_parts (x == m) (list_any (λ y. y == m) xs) none in
     ap (λ b. b && list_all (λ y. nat_lt y n) xs) (test_same x m n lo hi parts.0) ∙ ap (λ b. nat_lt x m && b) (all_same m n xs lo hi parts.1)
 
-none_below : (m : ℕ) (xs : List ℕ) → list_all (λ x. nat_lt x m) xs ≡ true → list_any (λ x. x == m) xs ≡ false
+pub none_below : (m : ℕ) (xs : List ℕ) → list_all (λ x. nat_lt x m) xs ≡ true → list_any (λ x. x == m) xs ≡ false
 none_below m [] below = refl
 none_below m (x ∷ xs) below =
     let parts : (nat_lt x m ≡ true) × (list_all (λ y. nat_lt y m) xs ≡ true) = and_parts (nat_lt x m) (list_all (λ y. nat_lt y m) xs) below in
     or_from (x == m) (list_any (λ y. y == m) xs) (ne_eqb x m (λ e. omega (arith, ltb-true x m parts.0, e))) (none_below m xs parts.1)
 
-calm_passes : (plan : CallPlan) → is_calm plan ≡ true → next_fails plan ≡ false
+-- unless the next call is stopped, one is still to be stopped exactly where one was
+none_next : (stop : ℕ) → (stop == 1) ≡ false → (stop - 1 == 0) ≡ (stop == 0)
+none_next stop ne = grind (arith, nat_tests)
+
+pub calm_passes : (plan : CallPlan) → is_calm plan ≡ true → next_fails plan ≡ false
 unfolding is_calm next_fails
 calm_passes plan calm =
     let next = next_count plan.made in
-    let parts : (list_all (λ x. nat_lt x next) plan.failing ≡ true) × (nat_lt plan.stop next ≡ true) = and_parts (list_all (λ x. nat_lt x next) plan.failing) (nat_lt plan.stop next) calm in
-    or_from (list_any (λ x. x == next) plan.failing) (plan.stop == next) (none_below next plan.failing parts.0) (ne_eqb plan.stop next (λ e. omega (arith, ltb-true plan.stop next parts.1, e)))
+    let parts : (list_all (λ x. nat_lt x next) plan.failing ≡ true) × ((plan.stop == 0) ≡ true) = and_parts (list_all (λ x. nat_lt x next) plan.failing) (plan.stop == 0) calm in
+    or_from (list_any (λ x. x == next) plan.failing) (plan.stop == 1) (none_below next plan.failing parts.0) (ne_eqb plan.stop 1 (λ e. omega (arith, eqb-true plan.stop 0 parts.1, e)))
 
 -- a call that didn't fail changes nothing of whether one is still to fail
 calm_same : (plan : CallPlan) → next_fails plan ≡ false → is_calm (after_call plan false) ≡ is_calm plan
 unfolding is_calm next_fails
 calm_same plan passes =
     let next = next_count plan.made in
-    let parts : (list_any (λ x. x == next) plan.failing ≡ false) × ((plan.stop == next) ≡ false) = or_parts (list_any (λ x. x == next) plan.failing) (plan.stop == next) passes in
-    ap (λ b. b && nat_lt plan.stop (next_count next)) (all_same next (next_count next) plan.failing (grows next) (by_one next) parts.0)
-    ∙ ap (λ b. list_all (λ x. nat_lt x next) plan.failing && b) (test_same plan.stop next (next_count next) (grows next) (by_one next) parts.1)
+    let parts : (list_any (λ x. x == next) plan.failing ≡ false) × ((plan.stop == 1) ≡ false) = or_parts (list_any (λ x. x == next) plan.failing) (plan.stop == 1) passes in
+    ap (λ b. b && (plan.stop - 1 == 0)) (all_same next (next_count next) plan.failing (grows next) (by_one next) parts.0)
+    ∙ ap (λ b. list_all (λ x. nat_lt x next) plan.failing && b) (none_next plan.stop parts.1)
 
 pub counted : (plan : CallPlan) (failed : Bool) → failed ≡ next_fails plan → Counts plan.faults (after_call plan failed).faults (is_calm plan) (is_calm (after_call plan failed)) failed
 counted plan false is = record {

@@ -1,26 +1,26 @@
 -- The history that the writes of a disk in memory are.
-use Rattle.std.proofs.Common.{ℕ, ◌≡◌, Bool, true, false, List, [], ◌∷◌, ◌++◌, refl, sym, ◌∙◌, ap}
+use Rattle.std.proofs.Common.{ℕ, ◌≡◌, Bool, true, false, List, [], ◌∷◌, ◌++◌, length, refl, sym, ◌∙◌, ap}
 use Rattle.replica_journal.specs.declared.write.Write.{Write}
 use Rattle.replica_journal.specs.Disk.{History, Wrote, Synced, synced}
 use Rattle.replica_journal.specs.Memory.{changes_of, history_onto, history_of}
 
-onto_push : (history : History) (writes : List Write) (write : Write) → history_onto history (writes ++ write ∷ []) ≡ changes_of write ++ history_onto history writes
+pub onto_push : (history : History) (writes : List Write) (write : Write) → history_onto history (writes ++ write ∷ []) ≡ changes_of write ++ history_onto history writes
 onto_push history [] write = refl
 onto_push history (first ∷ writes) write = onto_push (changes_of first ++ history) writes write
 
 -- one write more
-pub logged : (old new : List Write) (at size : ℕ) (landed : List ℕ) → new ≡ old ++ record { at = at; size = size; landed = landed; is_safe = false } ∷ []
-    → history_of new ≡ Wrote at size landed ∷ history_of old
-logged old new at size landed is = ap history_of is ∙ onto_push [] old (record { at = at; size = size; landed = landed; is_safe = false })
+pub logged : (old new : List Write) (at : ℕ) (piece : List ℕ) → new ≡ old ++ record { at = at; piece = piece; is_safe = false } ∷ []
+    → history_of new ≡ Wrote at (length piece) piece ∷ history_of old
+logged old new at piece is = ap history_of is ∙ onto_push [] old (record { at = at; piece = piece; is_safe = false })
 
-marked : (at size : ℕ) (landed : List ℕ) (is_safe : Bool) (history : History)
-    → synced (changes_of (record { at = at; size = size; landed = landed; is_safe = is_safe }) ++ history) ≡ Synced ∷ Wrote at size landed ∷ history
-marked at size landed false history = refl
-marked at size landed true history = refl
+marked : (at : ℕ) (piece : List ℕ) (is_safe : Bool) (history : History)
+    → synced (changes_of (record { at = at; piece = piece; is_safe = is_safe }) ++ history) ≡ Synced ∷ Wrote at (length piece) piece ∷ history
+marked at piece false history = refl
+marked at piece true history = refl
 
 -- the last write becomes safe
 pub safe_last : (old mid new : List Write) (last : Write) → old ≡ mid ++ last ∷ [] → new ≡ mid ++ record last { is_safe = true } ∷ []
     → history_of new ≡ synced (history_of old)
 safe_last old mid new last was is =
     ap history_of is ∙ onto_push [] mid (record last { is_safe = true })
-    ∙ sym (ap (λ (ws : List Write). synced (history_of ws)) was ∙ ap synced (onto_push [] mid last) ∙ marked last.at last.size last.landed last.is_safe (history_onto [] mid))
+    ∙ sym (ap (λ (ws : List Write). synced (history_of ws)) was ∙ ap synced (onto_push [] mid last) ∙ marked last.at last.piece last.is_safe (history_onto [] mid))

@@ -1,6 +1,7 @@
 pub mod Counted
 pub mod Histories
 pub mod Puts
+pub mod Crashes
 pub mod Moments
 pub mod Journals
 pub mod Appending
@@ -13,3 +14,9 @@ pub mod Replays
 pub mod Begins
 pub mod Opens
 pub mod Soundness
+pub mod Unlogged
+pub mod Takings
+pub mod Failing
+pub mod Restarts
+pub mod FailingIn
+pub mod Reopening

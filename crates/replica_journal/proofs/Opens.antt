@@ -21,13 +21,13 @@ says_nothing number keys before after (cause.Damaged at) none = absurd (none at 
 pub begin_fails : (number keys : ℕ) (t u : Option History) (c : OpenCause) → ((at : ℕ) → c ≡ cause.Damaged at → ⊥) → Begins t u (Err c) → Opens number keys t u (Err c)
 begin_fails number keys None u c none begins = begins
 begin_fails number keys (Some before) u c none begins =
-    (begins.0, begins.1, record { on = begins.2.on; moments = begins.2.moments; answer = says_nothing number keys before begins.0 c none })
+    (begins.0, begins.1, record { on = begins.2.on; lawful = begins.2.lawful; moments = begins.2.moments; answer = says_nothing number keys before begins.0 c none })
 
 -- after the beginning memory runs out
 pub make_fails : (number keys : ℕ) (t u : Option History) (end : ℕ) (c : OpenCause) → ((at : ℕ) → c ≡ cause.Damaged at → ⊥) → Begins t u (Ok end) → Opens number keys t u (Err c)
 make_fails number keys None u end c none begins = begins
 make_fails number keys (Some before) u end c none begins =
-    (begins.0, begins.1, record { on = begins.2.on; moments = begins.2.moments; answer = says_nothing number keys before begins.0 c none })
+    (begins.0, begins.1, record { on = begins.2.on; lawful = begins.2.lawful; moments = begins.2.moments; answer = says_nothing number keys before begins.0 c none })
 
 ready_end : (before after : History) (end : ℕ) → IsReady before after end → (1 < end) ⊎ (bytes_of after ≡ 0 ∷ [])
 ready_end before after end ready = elim ready.bytes [ inl long ↦ inl long.0 | inr short ↦ inr short.1 ]
@@ -60,6 +60,7 @@ replay_fails number keys (Some before) u v end now c begins same replays = (
   same ∙ begins.1,
   record {
     on = begins.2.on;
+    lawful = begins.2.lawful;
     moments = begins.2.moments;
     answer = replayed number keys before begins.0 end now c begins.2.ready (subst (λ (o : Option History). ReplaysOf o keys (opening_state number keys) now (Err c)) begins.1 replays);
   },
@@ -74,6 +75,7 @@ is_opened number keys (Some before) u v end now place begins same replays =
       same ∙ begins.1,
       record {
         on = begins.2.on;
+        lawful = begins.2.lawful;
         moments = begins.2.moments;
         answer = record {
           messages = whole.messages;

@@ -12,7 +12,7 @@ use Rattle.replica_journal.specs.Windows.{IsFoundAt, IsInside}
 use Rattle.replica_journal.specs.Replaying.{IsEnd, IsReplayedOf, ReplaysOf}
 use Rattle.replica_journal.proofs.Journals.{records_push, records_length, all_push}
 
-state_push : (start : State) (messages : List Message) (message : Message) → state_after start (messages ++ message ∷ []) ≡ (step (state_after start messages) message).state
+pub state_push : (start : State) (messages : List Message) (message : Message) → state_after start (messages ++ message ∷ []) ≡ (step (state_after start messages) message).state
 state_push start [] message = refl
 state_push start (first ∷ messages) message = state_push (step start first).state messages message
 

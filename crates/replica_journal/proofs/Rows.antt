@@ -88,7 +88,7 @@ one_row keys image a b (inl x) (inr y) = x.1 ∙ sym (none_in keys image b x.0 y
 one_row keys image a b (inr x) (inl y) = none_in keys image a y.0 x ∙ sym y.1
 one_row keys image a b (inr x) (inr y) = rows keys a b x.rest y.rest (sym x.spelled ∙ y.spelled) x.closed y.closed x.records y.records
 
-some_closed : (s : List ℕ) → IsClosed s → 0 < length s
+pub some_closed : (s : List ℕ) → IsClosed s → 0 < length s
 some_closed [] closed = absurd closed
 some_closed (gate ∷ s) closed = omega arith
 

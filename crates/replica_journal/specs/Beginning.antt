@@ -1,7 +1,7 @@
 -- What the beginning of the opening leaves of a disk.
 use Rattle.std.specs.Prelude.{ℕ, ◌≡◌, ◌<◌, ◌≤◌, ◌⊎◌, ⊤, List, [], ◌∷◌, length, Option, Some, None, Result, Ok, Err}
 use Rattle.replica_journal.specs.declared.open_fault.OpenCause.{OpenCause}
-use Rattle.replica_journal.specs.Disk.{History, GoesOn, AtEachMoment, IsImage, bytes_of}
+use Rattle.replica_journal.specs.Disk.{History, GoesOn, AtEachMoment, IsImage, IsLawfulHistory, bytes_of}
 
 -- a crash leaves just the bytes, which are these many: those from before, or a closed gate alone where there was at most one
 pub record IsReady (before after : History) (end : ℕ) : Type 0 where
@@ -19,6 +19,7 @@ IsReadyOn before after (Err cause) = ⊤
 
 pub record Begun (before after : History) (result : Result ℕ OpenCause) : Type 0 where
   pub on : GoesOn before after
+  pub lawful : IsLawfulHistory before → IsLawfulHistory after
   pub moments : AtEachMoment before after (IsNoWorse before)
   pub ready : IsReadyOn before after result
 

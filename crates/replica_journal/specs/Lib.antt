@@ -1,8 +1,10 @@
 pub mod Disk
 pub mod Calls
+pub mod Fitting
 pub mod Counting
 pub mod Memory
 pub mod Records
+pub mod Steps
 pub mod Appended
 pub mod AtGate
 pub mod Windows
@@ -11,4 +13,7 @@ pub mod Replaying
 pub mod Causes
 pub mod Beginning
 pub mod Opened
+pub mod Journaled
+pub mod Taken
+pub mod Stopped
 pub mod Examples

@@ -15,7 +15,7 @@ pub record HeldDisk : Type 0 where
 -- a write, and then its sync, if there was one
 abbrev pub changes_of : Write → List Change
 changes_of write =
-    if write.is_safe then Synced ∷ Wrote write.at write.size write.landed ∷ [] else Wrote write.at write.size write.landed ∷ []
+    if write.is_safe then Synced ∷ Wrote write.at (length write.piece) write.piece ∷ [] else Wrote write.at (length write.piece) write.piece ∷ []
 
 -- the history, on top of an earlier one, that writes are, of which the first came first
 abbrev pub history_onto : History → List Write → History
@@ -25,6 +25,16 @@ history_onto history (write ∷ writes) = history_onto (changes_of write ++ hist
 abbrev pub history_of : List Write → History
 history_of writes = history_onto [] writes
 
+-- what was safe
+abbrev pub safe_part : History → History
+safe_part [] = []
+safe_part (Wrote at size landed ∷ history) = safe_part history
+safe_part (Synced ∷ history) = Synced ∷ history
+
+-- after a crash that kept all that was written since the last sync, or nothing of it
+abbrev pub crashed : Bool → History → History
+crashed new history = if new then synced history else safe_part history
+
 -- after a call that changes no bytes, which failed or didn't
 abbrev pub after_look : HeldDisk → Bool → HeldDisk
 after_look held failed = record held { calls = after_call held.calls failed }
@@ -33,10 +43,10 @@ after_look held failed = record held { calls = after_call held.calls failed }
 abbrev pub after_sync : HeldDisk → Bool → HeldDisk
 after_sync held failed = record { history = if failed then held.history else synced held.history; calls = after_call held.calls failed }
 
--- after a write of this piece: nothing of it lands where it fails
+-- after a write of this piece: it lands also where its call fails
 abbrev pub after_write : HeldDisk → ℕ → List ℕ → Result (Unit {0}) DeviceFault → HeldDisk
 after_write held at piece (Ok done) = record { history = Wrote at (length piece) piece ∷ held.history; calls = after_call held.calls false }
-after_write held at piece (Err device.Failed) = record { history = Wrote at (length piece) [] ∷ held.history; calls = after_call held.calls true }
+after_write held at piece (Err device.Failed) = record { history = Wrote at (length piece) piece ∷ held.history; calls = after_call held.calls true }
 after_write held at piece (Err device.NoMemory) = held
 
 -- a write fails exactly where its call is one that fails, unless it finds no memory

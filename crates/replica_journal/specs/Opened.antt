@@ -5,7 +5,7 @@ use Rattle.replica_core.specs.Rule.{opening_state}
 use Rattle.replica_journal.specs.declared.open_fault.OpenCause.{OpenCause}
 use Rattle.replica_journal.specs.declared.open_fault.OpenCause.TheVariants.{NoMemory, DiskFault, Damaged}
 use Rattle.replica_journal.specs.declared.opening.Opened.{Opened}
-use Rattle.replica_journal.specs.Disk.{History, GoesOn, AtEachMoment, bytes_of}
+use Rattle.replica_journal.specs.Disk.{History, GoesOn, AtEachMoment, IsLawfulHistory, bytes_of}
 use Rattle.replica_journal.specs.Records.{HasRecords, IsAtRest, IsDamagedAt, state_after}
 use Rattle.replica_journal.specs.Beginning.{IsNoWorse}
 
@@ -25,6 +25,7 @@ IsAnswered number keys before after (Err (Damaged at)) = IsDamagedAt keys (bytes
 
 pub record IsOpening (number keys : ℕ) (before after : History) (result : Result Opened OpenCause) : Type 0 where
   pub on : GoesOn before after
+  pub lawful : IsLawfulHistory before → IsLawfulHistory after
   pub moments : AtEachMoment before after (IsNoWorse before)
   pub answer : IsAnswered number keys before after result
 

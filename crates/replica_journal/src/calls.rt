@@ -1,6 +1,6 @@
 ghost use Rattle.std.specs.Prelude.{◌≡◌, ◌==◌};
 ghost use Rattle.std.specs.List.{list_any};
-ghost use Rattle.replica_journal.specs.Calls.{next_fails, after_call, stop_in};
+ghost use Rattle.replica_journal.specs.Calls.{next_fails, after_call, no_calls, stop_in};
 
 use std::marker::Model;
 
@@ -8,7 +8,7 @@ use std::marker::Model;
 #[derive(Debug, Drop)]
 pub(crate) struct Calls {
     failing: Vec<u64>,
-    // One more call that fails, or 0.
+    // One more call that fails, counted from now, or 0.
     stop: u64,
     made: u64,
     faults: u64,
@@ -41,7 +41,7 @@ impl Calls {
     {
         let next = self.made.saturating_add(1);
         let is_listed = lists(&self.failing, next);
-        let is_stop = self.stop == next;
+        let is_stop = self.stop == 1;
         is_listed || is_stop
     }
 
@@ -50,6 +50,7 @@ impl Calls {
         ensures { self.new ≡ after_call self.old failed }
     {
         self.made = self.made.saturating_add(1);
+        self.stop = self.stop.saturating_sub(1);
         if failed {
             self.faults = self.faults.saturating_add(1);
         }
@@ -59,7 +60,16 @@ impl Calls {
     pub(crate) fn stop_in(&mut self, calls: u64)
         ensures { self.new ≡ stop_in self.old calls }
     {
-        self.stop = self.made.saturating_add(calls);
+        self.stop = calls;
+    }
+
+    // The same memory for calls of which none was made and none fails.
+    pub(crate) fn forget(self) -> Calls
+        ensures { result ≡ no_calls }
+    {
+        let Calls { mut failing, .. } = self;
+        failing.clear();
+        Calls::make(failing)
     }
 }
 

@@ -1,4 +1,4 @@
-ghost use Rattle.std.specs.Prelude.{◌≡◌, ◌<◌, ◌≤◌, ℕ, Bool, Option, length, IfOk, is_err};
+ghost use Rattle.std.specs.Prelude.{◌≡◌, ◌<◌, ◌≤◌, ℕ, Bool, List, Option, Result, length, IfOk, is_err};
 ghost use Rattle.replica_journal.specs.Disk.{History, IsWithin, TellsLength, TellsFrom, Writes, Syncs};
 ghost use Rattle.replica_journal.specs.Counting.{Counts, write_failed};
 
@@ -20,6 +20,10 @@ impl From<Failed> for DeviceFault {
 
 /// One file on a disk, as bytes. What is written is safe from a crash only once a sync answers Ok.
 pub trait Disk {
+    ghost use Rattle.span_base.specs.declared.sink.DeviceFault.{DeviceFault};
+    ghost use Rattle.replica_journal.specs.declared.disk.Failed.{Failed};
+    ghost use Rattle.replica_journal.specs.Fitting.{IsSmall};
+
     /// All that happened to the disk, where it tells that: so what a read gives, and what a crash
     /// may leave at each moment.
     ghost told: { Self → Option History };
@@ -29,6 +33,12 @@ pub trait Disk {
 
     /// Whether it never fails.
     ghost calm: { Self → Bool };
+
+    /// What a write at a place may make of it, and answer.
+    ghost write_does: { Self → Self → ℕ → List ℕ → Result (Unit {0}) DeviceFault → Type 0 };
+
+    /// What a sync may make of it, and answer.
+    ghost sync_does: { Self → Self → Result (Unit {0}) Failed → Type 0 };
 
     /// How many bytes there are. A disk with more than 9,223,372,036,854,775,807 fails.
     fn len(&mut self) -> Result<u64, Failed>
@@ -52,11 +62,16 @@ pub trait Disk {
     fn write_at(&mut self, at: u64, piece: &[u8]) -> Result<(), DeviceFault>
         requires { IsWithin (told self.old) at }
 
+        ensures does { write_does self.old self.new at piece.now result }
         ensures writes { Writes (told self.old) (told self.new) at piece.now result }
         ensures counts { Counts (faults self.old) (faults self.new) (calm self.old) (calm self.new) (write_failed result) };
 
     /// Makes what was written safe.
     fn sync(&mut self) -> Result<(), Failed>
+        ensures does { sync_does self.old self.new result }
         ensures syncs { Syncs (told self.old) (told self.new) result }
         ensures counts { Counts (faults self.old) (faults self.new) (calm self.old) (calm self.new) (is_err result) };
+
+    /// A value takes at most 4,294,967,296 bytes, so what keeps one can be kept in a list.
+    ghost small: { IsSmall Self.row };
 }

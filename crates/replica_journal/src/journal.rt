@@ -4,6 +4,7 @@ ghost use Rattle.replica_journal.specs.Disk.{History, IsWithin};
 ghost use Rattle.replica_journal.specs.Counting.{Counts, write_failed};
 ghost use Rattle.replica_journal.specs.Records.{IsRecord, IsAtRest, body_of};
 ghost use Rattle.replica_journal.specs.Appended.{Appended};
+ghost use Rattle.replica_journal.specs.Steps.{Appends};
 
 use crate::disk::Disk;
 use span_base::DeviceFault;
@@ -18,6 +19,7 @@ pub fn append<D: Disk>(disk: &mut D, gate: u64, piece: &[u8]) -> Result<(), Devi
     ensures appended { (keys : ℕ) (before after : History) (messages : List Message) (message : Message) → D.told disk.old ≡ Some before → D.told disk.new ≡ Some after
         → IsAtRest keys before gate messages → IsRecord keys message → piece.now ≡ body_of message ++ 0 ∷ []
         → Appended keys before after gate (length piece.now) messages message result }
+    ensures calls { Appends D.write_does D.sync_does gate piece.now disk.old disk.new result }
     ensures told { is_some (D.told disk.new) ≡ is_some (D.told disk.old) }
     ensures counts { Counts (D.faults disk.old) (D.faults disk.new) (D.calm disk.old) (D.calm disk.new) (write_failed result) }
 {

@@ -1,22 +1,23 @@
-ghost use Rattle.std.specs.Prelude.{◌≡◌, false, ◌+◌, ◌<◌, ◌≤◌, [], ◌∷◌, ◌++◌, length, vec_len, vec_capacity, IfOk, OnOk, OnErr, IsErrOf, is_err};
-ghost use Rattle.replica_journal.specs.Disk.{Wrote, put, bytes_of, synced};
+ghost use Rattle.std.specs.Prelude.{◌≡◌, ◌<◌, ◌≤◌, [], ◌∷◌, length, IfOk, OnOk, OnErr, IsErrOf, IsTrue, is_err};
+ghost use Rattle.replica_journal.specs.Disk.{Wrote, IsLawfulHistory, bytes_of};
 ghost use Rattle.span_base.specs.Files.{GivesFrom};
-ghost use Rattle.replica_journal.specs.Calls.{next_fails, stop_in};
+ghost use Rattle.replica_journal.specs.Calls.{is_calm, next_fails, no_calls, stop_in};
 ghost use Rattle.replica_journal.specs.Counting.{write_failed};
-ghost use Rattle.replica_journal.specs.Memory.{history_of, CountsIn, after_look, after_sync, after_write, FailsBy};
+ghost use Rattle.replica_journal.specs.Memory.{CountsIn, FailsBy, after_look, after_sync, after_write, crashed};
 
 use crate::calls::Calls;
+use crate::crash::keep;
 use crate::disk::{Disk, Failed};
-use crate::write::Write;
-use span_base::{Bytes, DeviceFault};
-use std::alloc::{AllocError, Global};
+use crate::write::{Write, log, make_safe, write_over};
+use span_base::{DeviceFault, copy_from};
+use std::alloc::Global;
 use std::marker::Model;
 
 /// The most bytes that a disk may have.
 const LIMIT: usize = 9_223_372_036_854_775_807;
 
 /// A disk in memory of which given calls fail. It tells all that happened to it, and keeps each
-/// piece that was written for that. A failing write leaves the bytes as they were.
+/// piece that was written for that. A failing write lands all the same.
 #[derive(Debug, Drop)]
 pub struct MemDisk {
     alloc: Global,
@@ -27,14 +28,14 @@ pub struct MemDisk {
 
 impl Model for MemDisk {
     ghost use Rattle.std.specs.Prelude.{◌≡◌, ◌≤◌, length};
-    ghost use Rattle.replica_journal.specs.Disk.{bytes_of};
+    ghost use Rattle.replica_journal.specs.Disk.{bytes_of, IsLawfulHistory};
     ghost use Rattle.replica_journal.specs.Memory.{HeldDisk, history_of};
 
     ghost Value = { HeldDisk };
 
     ghost view = { λ d. record { history = history_of d.writes.items; calls = d.calls } };
 
-    ghost invariant = { λ d. (d.bytes.items ≡ bytes_of (history_of d.writes.items)) × (length d.bytes.items ≤ 9223372036854775807) };
+    ghost invariant = { λ d. (d.bytes.items ≡ bytes_of (history_of d.writes.items)) × (length d.bytes.items ≤ 9223372036854775807) × IsLawfulHistory (history_of d.writes.items) };
 }
 
 impl MemDisk {
@@ -67,27 +68,43 @@ impl MemDisk {
         self.bytes.as_slice()
     }
 
-    // A write of so many bytes of which these land.
+    /// The disk after a crash that kept all that was written since the last sync that answered Ok,
+    /// also by a call that failed, or nothing of it. No call is still to fail.
+    #[tactic(auto, using(crate::proofs::Crashes::crashed_lawful), unfolding(crate::specs::Calls::is_calm))]
+    pub fn crash(self, new: bool) -> MemDisk
+        ensures crashed { result ≡ record { history = crashed new self.history; calls = no_calls } }
+        ensures lawful { IsLawfulHistory self.history }
+        ensures calm { IsTrue (is_calm result.calls) }
+    {
+        let MemDisk {
+            alloc,
+            mut bytes,
+            mut writes,
+            calls,
+        } = self;
+        keep(&mut bytes, &mut writes, new);
+        MemDisk {
+            alloc,
+            bytes,
+            writes,
+            calls: calls.forget(),
+        }
+    }
+
+    // Puts down a write, whose call may fail or not.
     #[tactic(auto, using(crate::proofs::Histories::logged, crate::proofs::Puts::put_length))]
-    fn store(&mut self, at: u64, size: usize, landed: &[u8]) -> Result<(), DeviceFault>
+    fn store(&mut self, at: u64, piece: &[u8]) -> Result<(), DeviceFault>
         requires within { at ≤ length (bytes_of self.old.history) }
-        ensures ok { OnOk result (self.new ≡ record self.old { history = Wrote at size landed.now ∷ self.old.history }) }
+        ensures ok { OnOk result (self.new ≡ record self.old { history = Wrote at (length piece.now) piece.now ∷ self.old.history }) }
         ensures err { OnErr result (self.new ≡ self.old) }
         ensures never_fails { IsErrOf result DeviceFault.Failed → ⊥ }
     {
-        if landed.len() > LIMIT - self.bytes.len() {
+        if piece.len() > LIMIT - self.bytes.len() {
             return Err(DeviceFault::NoMemory);
         }
-        match log(
-            self.alloc,
-            &mut self.bytes,
-            &mut self.writes,
-            at,
-            size,
-            landed,
-        ) {
+        match log(self.alloc, &mut self.bytes, &mut self.writes, at, piece) {
             Ok(()) => {
-                write_over(&mut self.bytes, at as usize, landed);
+                write_over(&mut self.bytes, at as usize, piece);
                 Ok(())
             }
             Err(_) => Err(DeviceFault::NoMemory),
@@ -95,45 +112,9 @@ impl MemDisk {
     }
 }
 
-// Takes the memory for a write, and notes it.
-fn log(
-    alloc: Global,
-    bytes: &mut Vec<u8>,
-    writes: &mut Vec<Write>,
-    at: u64,
-    size: usize,
-    landed: &[u8],
-) -> Result<(), AllocError>
-    ensures bytes { bytes.new.items ≡ bytes.old.items }
-    ensures space { OnOk result (vec_len bytes.new + length landed.now ≤ vec_capacity bytes.new) }
-    ensures ok { OnOk result (writes.new.items ≡ writes.old.items ++ record { at = at; size = size; landed = landed.now; is_safe = false } ∷ []) }
-    ensures err { OnErr result (writes.new.items ≡ writes.old.items) }
-{
-    bytes.reserve(landed.len())?;
-    let landed = Bytes::from_vec(landed.to_vec(alloc)?);
-    writes.push(Write {
-        at,
-        size,
-        landed,
-        is_safe: false,
-    })?;
-    Ok(())
-}
-
-// Puts a piece into the place of what stands there, and the rest behind it. The memory is there.
-fn write_over(bytes: &mut Vec<u8>, at: usize, piece: &[u8])
-    requires within { at ≤ vec_len bytes.old }
-    requires space { vec_len bytes.old + length piece.now ≤ vec_capacity bytes.old }
-    ensures { bytes.new.items ≡ put bytes.old.items at piece.now }
-{
-    let over = piece.len().min(bytes.len() - at);
-    let (front, behind) = piece.split_at(over);
-    bytes[at..at + over].copy_from_slice(front);
-    bytes.extend_from_slice(behind).unwrap();
-}
-
 impl Disk for MemDisk {
     ghost use Rattle.std.specs.Prelude.{Some};
+    ghost use Rattle.std.proofs.Common.{rules};
     ghost use Rattle.replica_journal.specs.Calls.{is_calm};
 
     ghost told = { λ d. Some d.history };
@@ -141,6 +122,10 @@ impl Disk for MemDisk {
     ghost faults = { λ d. d.calls.faults };
 
     ghost calm = { λ d. is_calm d.calls };
+
+    ghost write_does = { λ old new at piece result. (new ≡ after_write old at piece result) × FailsBy (next_fails old.calls) result };
+
+    ghost sync_does = { λ old new result. (new ≡ after_sync old (is_err result)) × (is_err result ≡ next_fails old.calls) };
 
     #[tactic(auto, using(crate::proofs::Counted::counted))]
     fn len(&mut self) -> Result<u64, Failed>
@@ -183,13 +168,12 @@ impl Disk for MemDisk {
         ensures fails { FailsBy (next_fails self.old.calls) result }
         ensures counts { CountsIn self.old self.new (write_failed result) }
     {
-        if self.calls.next_fails() {
-            self.store(at, piece.len(), &[])?;
-            self.calls.count(true);
+        self.store(at, piece)?;
+        let fails = self.calls.next_fails();
+        self.calls.count(fails);
+        if fails {
             return Err(DeviceFault::Failed);
         }
-        self.store(at, piece.len(), piece)?;
-        self.calls.count(false);
         Ok(())
     }
 
@@ -207,27 +191,6 @@ impl Disk for MemDisk {
         make_safe(&mut self.writes);
         Ok(())
     }
-}
 
-// Copies bytes from this place on into the front of the buffer, as many as there are and fit.
-fn copy_from(bytes: &[u8], at: u64, buf: &mut [u8]) -> usize
-    requires { 0 < length buf.old }
-    ensures within { result ≤ length buf.new }
-    ensures gives { GivesFrom bytes.now at buf.new result }
-{
-    let start = (bytes.len() as u64).min(at) as usize;
-    let rest = &bytes[start..];
-    let count = rest.len().min(buf.len());
-    buf[..count].copy_from_slice(&rest[..count]);
-    count
-}
-
-// Notes that a sync followed the last write.
-fn make_safe(writes: &mut Vec<Write>)
-    ensures { history_of writes.new.items ≡ synced (history_of writes.old.items) }
-{
-    if let Some(mut last) = writes.pop() {
-        last.is_safe = true;
-        writes.push(last).unwrap();
-    }
+    ghost small = { Prim.search rules };
 }

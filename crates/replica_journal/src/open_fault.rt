@@ -13,6 +13,13 @@ pub enum OpenCause {
     Damaged { at: u64 },
 }
 
+/// A refused opening, with the disk that was to be opened.
+#[derive(Debug, Drop)]
+pub struct OpenFault<D> {
+    pub disk: D,
+    pub cause: OpenCause,
+}
+
 impl From<AllocError> for OpenCause {
     ghost use Rattle.std.specs.Prelude.{◌≡◌};
     ghost use Rattle.replica_journal.specs.declared.open_fault.OpenCause.TheVariants.{NoMemory};

@@ -30,6 +30,7 @@ pub fn open_journal<D: Disk>(
     requires number { number < 16 }
     requires keys { keys ≤ 1000 }
     ensures opens { Opens number keys (D.told disk.old) (D.told disk.new) result }
+    ensures place { IfOk result (λ opened. (opened.place.records ≤ opened.place.gate) × (opened.place.gate ≤ 9223372036854775807)) }
     ensures number { IfOk result (λ opened. opened.replica.number ≡ number) }
     ensures keys { IfOk result (λ opened. length opened.replica.kept ≡ keys) }
     ensures counts { Counts (D.faults disk.old) (D.faults disk.new) (D.calm disk.old) (D.calm disk.new) (open_failed result) }

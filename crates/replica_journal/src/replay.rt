@@ -1,6 +1,6 @@
 //! A journal is read from its first record to its last.
 
-ghost use Rattle.std.specs.Prelude.{◌≡◌, ◌<◌, ◌≤◌, length, IfSome, OnOk};
+ghost use Rattle.std.specs.Prelude.{◌≡◌, ◌<◌, ◌≤◌, length, IfOk, IfSome, OnOk};
 ghost use Rattle.wire_msg.specs.Lawful.{IsLawful};
 ghost use Rattle.replica_core.specs.Rule.{request_key, step};
 ghost use Rattle.replica_journal.specs.Counting.{Counts};
@@ -38,6 +38,7 @@ pub(crate) fn replay<D: Disk>(
     requires end { IsEnd (D.told disk.old) end }
     requires keys { length replica.old.kept ≡ keys }
     ensures replays { ReplaysOf (D.told disk.old) keys replica.old replica.new result }
+    ensures place { IfOk result (λ place. (place.records ≤ place.gate) × (place.gate ≤ 9223372036854775807)) }
     ensures stays { D.told disk.new ≡ D.told disk.old }
     ensures number { replica.new.number ≡ replica.old.number }
     ensures keys { length replica.new.kept ≡ length replica.old.kept }

@@ -26,7 +26,7 @@ fn calls_fail_by_their_numbers(rt: HostRuntime) -> Result<(), Fail> {
     disk.fail_in(2);
     assert_eq!(rt; disk.sync(), Ok(()));
     assert_eq!(rt; disk.len(), Err(Failed));
-    assert_eq!(rt; disk.bytes(), b"abc".as_slice());
+    assert_eq!(rt; disk.bytes(), b"axyz".as_slice());
     Ok(())
 }
 
@@ -56,9 +56,9 @@ fn stopped(alloc: Global, call: u64) -> Result<(bool, u8, usize), DeviceFault> {
 #[test]
 fn the_gate_is_opened_last(rt: HostRuntime) -> Result<(), Fail> {
     let cases = [
-        (1, (false, 0, 1)),
+        (1, (false, 0, 22)),
         (2, (false, 0, 22)),
-        (3, (false, 0, 22)),
+        (3, (false, 1, 22)),
         (4, (false, 1, 22)),
         (0, (true, 1, 22)),
     ];
@@ -150,18 +150,31 @@ fn two_records(alloc: Global) -> Result<Vec<u8>, AllocError>
     Ok(bytes)
 }
 
+/// Ten records, and the gate behind them.
+fn ten_records(alloc: Global) -> Result<Vec<u8>, AllocError> {
+    let mut bytes = Vec::new(alloc);
+    for _ in 0..9 {
+        bytes.extend_from_slice(&RECORD[..21])?;
+    }
+    bytes.extend_from_slice(&RECORD)?;
+    Ok(bytes)
+}
+
 #[test]
 fn a_front_of_a_journal_is_told_by_its_place(rt: HostRuntime) -> Result<(), Fail> {
     let alloc = rt.alloc();
-    let journal = two_records(alloc)?;
-    for len in 0..43 {
-        let told = match len {
-            0 | 1 => Ok((0, 0)),
-            2..22 => Err(OpenCause::Damaged { at: 0 }),
-            _ => Err(OpenCause::Damaged { at: 21 }),
-        };
-        assert_eq!(rt; opened(alloc, &journal[..len], 0)?, told, "{len}");
+    for len in 2..211 {
+        let mut journal = ten_records(alloc)?;
+        journal.truncate(len);
+        let place = (len as u64 - 1) / 21 * 21;
+        let told = Err(OpenCause::Damaged { at: place });
+        assert_eq!(rt; opened(alloc, journal.as_slice(), 0)?, told, "{len}");
     }
+    assert_eq!(rt; opened(alloc, &[1], 0)?, Ok((0, 0)));
+    assert_eq!(rt;
+        opened(alloc, ten_records(alloc)?.as_slice(), 0)?,
+        Ok((210, 10))
+    );
     Ok(())
 }
 

@@ -3,10 +3,10 @@ use Rattle.std.proofs.lemmas.Grind.{common_steps}
 use Rattle.replica_journal.proofs.Counted.{counted_at}
 use Rattle.replica_journal.proofs.mem_disk.MemDiskDisk.write_at.Goals as goal
 
-pub returns-then-next_fails-clause-counts : goal.returns-then-next_fails-clause-counts
-returns-then-next_fails-clause-counts c =
-    counted_at c.args.self.now.calls c.self-then-next_fails.inside.calls c.count.new.self true (grind (arith, common_steps)) c.count.ensures (grind (arith, common_steps))
+pub returns-then-fails-clause-counts : goal.returns-then-fails-clause-counts
+returns-then-fails-clause-counts c =
+    counted_at c.args.self.now.calls c.self.inside.calls c.count.new.self true (grind (arith, common_steps)) (grind (arith, common_steps)) (grind (arith, common_steps))
 
 pub returns-clause-counts : goal.returns-clause-counts
 returns-clause-counts c =
-    counted_at c.args.self.now.calls c.self-2.inside.calls c.count-2.new.self false (grind (arith, common_steps)) c.count-2.ensures (grind (arith, common_steps))
+    counted_at c.args.self.now.calls c.self.inside.calls c.count.new.self false (grind (arith, common_steps)) (grind (arith, common_steps)) (grind (arith, common_steps))
