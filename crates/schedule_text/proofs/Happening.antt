@@ -26,7 +26,7 @@ use Rattle.schedule_text.proofs.SoundHeaders.{SoFar, nothing_read, header_keeps,
 use Rattle.schedule_text.proofs.Publishing.{table_fits, table_may}
 
 -- where an event was read it may happen
-abbrev MayIf : Header → Result Event Flaw → Type 0
+abbrev pub MayIf : Header → Result Event Flaw → Type 0
 MayIf header said = IfOk said (MayAlways header)
 
 may_plain : (header : Header) (work : Work) (words : List (List ℕ)) → MayIf header (plain_call work words)
@@ -114,7 +114,7 @@ either : (P : Result Event Flaw → Type 0) (b : Bool) (x y : Result Event Flaw)
 either P true x y p q = p
 either P false x y p q = q
 
-may_by : (form : Form) (header : Header) (word : List ℕ) (words : List (List ℕ)) → MayIf header (event_by (setting_of form header) word words)
+pub may_by : (form : Form) (header : Header) (word : List ℕ) (words : List (List ℕ)) → MayIf header (event_by (setting_of form header) word words)
 unfolding event_by
 may_by form header word words =
     let P : Result Event Flaw → Type 0 = MayIf header in
@@ -162,7 +162,7 @@ from_opens line header (text ∷ texts) so = by_begin (is_begin header text) ref
     by_begin true is more = header_whole header text is so
     by_begin false is more = by_line (header_line header text) refl more
 
-header_opens : (lines : List (List ℕ)) → IfOk (header_says lines) (λ it. IsHeader it.header)
+pub header_opens : (lines : List (List ℕ)) → IfOk (header_says lines) (λ it. IsHeader it.header)
 unfolding header_says
 header_opens [] = tt
 header_opens (text ∷ texts) = either_opened (is_word text (codes "span-schedule 1"))

@@ -8,4 +8,12 @@ mod Read
 mod SoundHeaders
 mod Publishing
 mod Happening
+mod KeptHappening
+mod KeptPlain
+mod Joining
+mod Bytes
+mod NumbersBack
+mod PoliciesBack
+mod EventsBack
+mod SchedulesBack
 mod Worked

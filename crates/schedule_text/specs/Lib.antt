@@ -9,5 +9,10 @@ pub mod Tables
 pub mod Events
 pub mod Schedules
 pub mod Given
+pub mod Kept
+pub mod KeptGiven
+pub mod Printed
+pub mod Spellable
 pub mod Rows
 pub mod Laws
+pub mod KeptLaws

@@ -144,7 +144,7 @@ fn publish(
 
 /// The event of this word.
 #[tactic(auto, unfolding(crate::specs::Events::event_by))]
-fn event_by(
+pub(crate) fn event_by(
     alloc: Global,
     setting: &Setting,
     word: &[u8],

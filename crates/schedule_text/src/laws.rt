@@ -7,10 +7,27 @@ ghost use Rattle.schedule_text.specs.declared.fault.ScheduleFault.TheVariants.{B
 ghost use Rattle.schedule_text.specs.Schedules.{schedule_of};
 ghost use Rattle.schedule_text.specs.Rows.{strong_text, strong_schedule, eventual_text, eventual_schedule};
 ghost use Rattle.schedule_text.specs.Laws.{SchedulesMayHappen};
+ghost use Rattle.schedule_text.specs.KeptLaws.{KeptSchedulesMayHappen, SchedulesAreRestartRuns};
+ghost use Rattle.schedule_text.specs.Spellable.{SchedulesAreReadBack};
 
 /// The header of a schedule opens a store, and each of its events may happen there at any time.
 pub fn schedules_may_happen()
     ensures { SchedulesMayHappen }
+{}
+
+/// The header of a restart run opens a store, and each of its events may happen there at any time.
+pub fn kept_schedules_may_happen()
+    ensures { KeptSchedulesMayHappen }
+{}
+
+/// The text of a schedule is that of a restart run without crashes, of the same events.
+pub fn schedules_are_restart_runs()
+    ensures { SchedulesAreRestartRuns }
+{}
+
+/// What is printed of a schedule that the grammar spells says that schedule.
+pub fn schedules_are_read_back()
+    ensures { SchedulesAreReadBack }
 {}
 
 /// Small texts say what was worked by hand: a schedule of a strong key, which is no script, and

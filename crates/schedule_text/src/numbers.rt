@@ -13,7 +13,7 @@ use std::alloc::{AllocError, Global};
 
 /// The number that a text spells, however great.
 #[tactic(auto, unfolding(crate::specs::Numbers::spelled))]
-fn spelled(text: &[u8]) -> Option<u128>
+pub(crate) fn spelled(text: &[u8]) -> Option<u128>
     ensures { result ≡ spelled text.now }
 {
     match read_number(text, u128::MAX) {

@@ -19,7 +19,7 @@ use std::alloc::{AllocError, Global};
 use world_core::{Event, Header};
 
 /// The greatest number of events of a schedule.
-const EVENTS: usize = 1_000_000;
+pub(crate) const EVENTS: usize = 1_000_000;
 
 /// Reads a schedule as one of this form: the whole text is looked at, and of its events only the
 /// place is kept, from which `Events` gives them. The text is a fault at its first line that is
@@ -42,7 +42,7 @@ pub fn read_schedule(alloc: Global, text: &[u8], form: Form) -> Result<Opening, 
 }
 
 /// The number of the line `begin`.
-fn begin_line(header: &Header) -> u64
+pub(crate) fn begin_line(header: &Header) -> u64
     requires { IsHeader header.now }
     ensures line { result ≡ begin_line header.now }
     ensures few { result ≤ 2000 }
