@@ -1,0 +1,9 @@
+pub mod Loads
+pub mod JointPlans
+pub mod Variables
+pub mod Capacity
+pub mod Programs
+pub mod Faults
+pub mod Placed
+pub mod Laws
+pub mod Examples

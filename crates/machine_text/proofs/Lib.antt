@@ -1,0 +1,4 @@
+pub mod Between
+pub mod FirstRecords
+pub mod Joined
+pub mod Taking

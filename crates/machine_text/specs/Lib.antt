@@ -1,0 +1,5 @@
+pub mod Machines
+pub mod Spelled
+pub mod ReadMachines
+pub mod Rows
+pub mod Worked
