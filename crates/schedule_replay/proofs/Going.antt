@@ -76,6 +76,7 @@ took schedule old new marks more event left line happens stands =
           ∙ ap (λ (xs : List Mark). behind (marks ++ xs) (n + 1) (run rest new.cloud.store)) (sym happens.marks_are)
           ∙ ap (λ (t : ℕ). behind (marks ++ more) t (run rest new.cloud.store)) (sym one);
       line = omega (arith, line, was, one);
+      registers = stands.registers;
     }
 
 pub ready_next : (old new : Running) (more : List Mark) (event : Event) → old.events.events ≡ event ∷ new.events.events

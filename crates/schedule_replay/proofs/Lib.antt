@@ -1,5 +1,6 @@
 pub mod Keeps
 pub mod MayRun
+pub mod Registers
 pub mod Few
 pub mod Opening
 pub mod Going

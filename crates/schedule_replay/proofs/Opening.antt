@@ -9,12 +9,13 @@ use Rattle.world_core.specs.Run.{Run, run}
 use Rattle.schedule_text.specs.declared.setting.Form.TheVariants.{Plain}
 use Rattle.schedule_text.specs.Given.{Left}
 use Rattle.schedule_text.specs.Headers.{begin_line}
-use Rattle.schedule_text.specs.Laws.{HasModes, MayAlways, SchedulesMayHappen}
+use Rattle.schedule_text.specs.Laws.{HasModes, IsSchedule, MayAlways, SchedulesMayHappen}
 use Rattle.schedule_text.specs.Schedules.{Schedule, schedule_of}
 use Rattle.schedule_replay.specs.declared.running.Running.{Running}
 use Rattle.schedule_replay.specs.Standing.{IsReady, Stands, behind, Opens}
 use Rattle.schedule_replay.proofs.Few.{few_events}
 use Rattle.schedule_replay.proofs.Keeps.{opens_modes}
+use Rattle.schedule_replay.proofs.Registers.{registers_kept}
 
 behind_nothing : (r : Run) → r ≡ behind [] 0 r
 behind_nothing r =
@@ -28,8 +29,8 @@ pub record IsOpened (running : Running) (header : Header) (events : List Event) 
   pub none_taken : running.cloud.events ≡ 0
 
 module _ (running : Running) (header : Header) (events : List Event) where
-  stands_opened : IsOpened running header events → Stands (record { header = header; events = events }) running []
-  stands_opened is =
+  stands_opened : IsSchedule (record { header = header; events = events }) → IsOpened running header events → Stands (record { header = header; events = events }) running []
+  stands_opened may is =
       let left : running.events.events ≡ events = ap (λ (l : Left). l.events) is.events_are in
       let none = is.none_taken in
       let at : running.events.line ≡ begin_line header = ap (λ (l : Left). l.line) is.events_are in
@@ -39,10 +40,13 @@ module _ (running : Running) (header : Header) (events : List Event) where
             ∙ ap (λ (es : List Event). behind [] running.cloud.events (run es (opening header))) (sym left)
             ∙ ap (λ (s : Store). behind [] running.cloud.events (run running.events.events s)) (sym is.store_is);
         line = omega (arith, at, none);
+        registers = registers_kept (record { header = header; events = events }) may;
       }
 
-  pub opens_so : (text : List ℕ) → schedule_of Plain text ≡ Ok (record { header = header; events = events }) → IsOpened running header events → Opens text (Ok running)
-  opens_so text read is = (record { header = header; events = events }, read, stands_opened is)
+  pub opens_so : SchedulesMayHappen → (text : List ℕ) → schedule_of Plain text ≡ Ok (record { header = header; events = events }) → IsOpened running header events → Opens text (Ok running)
+  opens_so may text read is =
+      let schedule : Schedule = record { header = header; events = events } in
+      (schedule, read, stands_opened (may Plain text schedule read) is)
 
   pub opens_ready : SchedulesMayHappen → (text : List ℕ) → schedule_of Plain text ≡ Ok (record { header = header; events = events }) → IsOpened running header events → IsReady running
   opens_ready may text read is =

@@ -13,6 +13,7 @@ use Rattle.run_marks.specs.declared.mark.Mark.{Mark}
 use Rattle.run_marks.specs.Text.{mark_text, marks_text, messages_line}
 use Rattle.world_core.specs.State.{Store}
 use Rattle.world_core.specs.Run.{Run}
+use Rattle.world_core.specs.Laws.{KeepsRegisters}
 use Rattle.schedule_text.specs.declared.setting.Form.TheVariants.{Plain}
 use Rattle.schedule_text.specs.Schedules.{Schedule, schedule_of}
 use Rattle.schedule_replay.specs.declared.fault.ReplayFault.{ReplayFault}
@@ -90,6 +91,7 @@ module _ (text : List ℕ) (from : Option (List ℕ)) where
           unrefused = is.unrefused;
           taken = subst (Appends from next) same (says (marks_text so.marks) so.said);
           messages_are = many;
+          registers = so.stands.registers;
         },
       )
 
@@ -116,21 +118,22 @@ module _ (text : List ℕ) (from : Option (List ℕ)) where
   begins_refused schedule marks running NoMemory goes = goes
 
   -- the run goes no further, and its marks were taken
-  stops_told : (schedule : Schedule) (marks : List Mark) (next : Option (List ℕ)) (told : ReplayFault) → Appends from next (marks_text marks) → IsRefused schedule marks told → StopsAt schedule from next told
-  stops_told schedule marks next told taken is = record {
+  stops_told : (schedule : Schedule) (marks : List Mark) (next : Option (List ℕ)) (told : ReplayFault) → KeepsRegisters schedule.header (replayed schedule).marks → Appends from next (marks_text marks) → IsRefused schedule marks told → StopsAt schedule from next told
+  stops_told schedule marks next told kept taken is = record {
     fault = is.fault;
     refused = is.refused;
     told_is = is.told_is;
     taken = subst (λ (ms : List Mark). Appends from next (marks_text ms)) (sym is.marks_are) taken;
+    registers = kept;
   }
 
-  ends_told : (schedule : Schedule) (marks : List Mark) (running : Running) (next : Option (List ℕ)) (fault : ReplayFault) → schedule_of Plain text ≡ Ok schedule
+  ends_told : (schedule : Schedule) (marks : List Mark) (running : Running) (next : Option (List ℕ)) (fault : ReplayFault) → schedule_of Plain text ≡ Ok schedule → KeepsRegisters schedule.header (replayed schedule).marks
       → Goes schedule marks running (Err fault) → Appends from next (marks_text marks) → ReplayEnds text from next (Err fault)
-  ends_told schedule marks running next (Bad line cause) read goes taken = absurd goes
-  ends_told schedule marks running next (Limit line what number) read goes taken = inr (schedule, read, stops_told schedule marks next (Limit line what number) taken goes)
-  ends_told schedule marks running next (BadEvent line cause) read goes taken = (schedule, read, stops_told schedule marks next (BadEvent line cause) taken goes)
-  ends_told schedule marks running next WriteFault read goes taken = absurd goes
-  ends_told schedule marks running next NoMemory read goes taken =
+  ends_told schedule marks running next (Bad line cause) read kept goes taken = absurd goes
+  ends_told schedule marks running next (Limit line what number) read kept goes taken = inr (schedule, read, stops_told schedule marks next (Limit line what number) kept taken goes)
+  ends_told schedule marks running next (BadEvent line cause) read kept goes taken = (schedule, read, stops_told schedule marks next (BadEvent line cause) kept taken goes)
+  ends_told schedule marks running next WriteFault read kept goes taken = absurd goes
+  ends_told schedule marks running next NoMemory read kept goes taken =
       inr (cut_at schedule marks next read goes (record { sent = marks_text marks; rest = []; taken = taken; text_is = sym (append-nil (marks_text marks)) }))
 
   pub ends_refused : (old new : Running) (now next : Option (List ℕ)) (kept : List ℕ) (fault : ReplayFault)
@@ -138,7 +141,7 @@ module _ (text : List ℕ) (from : Option (List ℕ)) where
       → ((said : List ℕ) → IsSaid from now kept said → Appends from next said)
       → IsToldSoFar text from now old kept → ReplayEnds text from next (Err fault)
   ends_refused old new now next kept fault goes says so =
-      ends_told so.schedule so.marks new next fault so.read (goes so.schedule so.marks so.stands) (says (marks_text so.marks) so.said)
+      ends_told so.schedule so.marks new next fault so.read so.stands.registers (goes so.schedule so.marks so.stands) (says (marks_text so.marks) so.said)
 
   -- the run goes no further, and a front of its marks was taken
   pub stops_refused : (old new : Running) (now next : Option (List ℕ)) (kept : List ℕ) (fault : ReplayFault) (device : DeviceFault)

@@ -9,6 +9,7 @@ use Rattle.run_marks.specs.Text.{marks_text, messages_line}
 use Rattle.world_core.specs.declared.event.StepFault.{StepFault}
 use Rattle.world_core.specs.declared.event.StepFault.TheVariants as step
 use Rattle.world_core.specs.Run.{Run, run_of}
+use Rattle.world_core.specs.Laws.{KeepsRegisters}
 use Rattle.schedule_text.specs.declared.setting.Form.TheVariants.{Plain}
 use Rattle.schedule_text.specs.declared.fault.ScheduleFault.{ScheduleFault}
 use Rattle.schedule_text.specs.declared.fault.ScheduleFault.TheVariants as reading
@@ -56,18 +57,20 @@ unless_refused (Some fault) line = []
 abbrev pub run_text : Run → List ℕ
 run_text run = marks_text run.marks ++ unless_refused run.refused (messages_line (length run.store.sent))
 
--- the run went to its end: its whole text was taken, and so many messages were sent
-pub record RunsWhole (run : Run) (old new : Option (List ℕ)) (messages : ℕ) : Type 0 where
-  pub unrefused : run.refused ≡ None
-  pub taken : Appends old new (marks_text run.marks ++ messages_line (length run.store.sent))
-  pub messages_are : messages ≡ length run.store.sent
+-- the schedule's run went to its end: its whole text was taken, so many messages were sent, and in that text the history of each strong key is that of one register
+pub record RunsWhole (schedule : Schedule) (old new : Option (List ℕ)) (messages : ℕ) : Type 0 where
+  pub unrefused : (replayed schedule).refused ≡ None
+  pub taken : Appends old new (marks_text (replayed schedule).marks ++ messages_line (length (replayed schedule).store.sent))
+  pub messages_are : messages ≡ length (replayed schedule).store.sent
+  pub registers : KeepsRegisters schedule.header (replayed schedule).marks
 
--- the run refused an event, of which this is told: just the marks of those before it were taken
+-- the schedule's run refused an event, of which this is told: just the marks of those before it were taken, and in them the history of each strong key is that of one register
 pub record StopsAt (schedule : Schedule) (old new : Option (List ℕ)) (told : ReplayFault) : Type 0 where
   pub fault : StepFault
   pub refused : (replayed schedule).refused ≡ Some fault
   pub told_is : told ≡ refused_at (event_line schedule (replayed schedule).taken) fault
   pub taken : Appends old new (marks_text (replayed schedule).marks)
+  pub registers : KeepsRegisters schedule.header (replayed schedule).marks
 
 -- the text is that of a schedule of which this holds
 abbrev pub IsScheduled : List ℕ → (Schedule → Type 0) → Type 0
@@ -83,7 +86,7 @@ IsCut text old new = IsScheduled text (λ schedule. IsFrontTaken old new (run_te
 
 -- how replaying a text ends
 abbrev pub ReplayEnds : List ℕ → Option (List ℕ) → Option (List ℕ) → Result ℕ ReplayFault → Type 0
-ReplayEnds text old new (Ok messages) = IsScheduled text (λ schedule. RunsWhole (replayed schedule) old new messages)
+ReplayEnds text old new (Ok messages) = IsScheduled text (λ schedule. RunsWhole schedule old new messages)
 ReplayEnds text old new (Err (Bad line cause)) = IsUnread text old new (reading.Bad line cause)
 ReplayEnds text old new (Err (Limit line what number)) =
     IsUnread text old new (reading.Limit line what number) ⊎ IsScheduled text (λ schedule. StopsAt schedule old new (Limit line what number))

@@ -7,6 +7,7 @@ use Rattle.sink_buffer.specs.Said.{IsSaid}
 use Rattle.world_core.specs.declared.event.Header.{Header}
 use Rattle.world_core.specs.declared.event.StepFault.{StepFault}
 use Rattle.world_core.specs.Run.{Run, run}
+use Rattle.world_core.specs.Laws.{KeepsRegisters}
 use Rattle.schedule_text.specs.declared.setting.Form.TheVariants.{Plain}
 use Rattle.schedule_text.specs.declared.fault.ScheduleFault.TheVariants as reading
 use Rattle.schedule_text.specs.Headers.{begin_line}
@@ -28,10 +29,11 @@ pub record IsReady (running : Running) : Type 0 where
 abbrev pub behind : List Mark → ℕ → Run → Run
 behind marks taken rest = record rest { marks = marks ++ rest.marks; taken = taken + rest.taken }
 
--- the schedule's run has left these marks, and goes on with the events that are left
+-- the schedule's run has left these marks, and goes on with the events that are left; in the whole run the history of each strong key is that of one register
 pub record Stands (schedule : Schedule) (running : Running) (marks : List Mark) : Type 0 where
   pub goes_on : replayed schedule ≡ behind marks running.cloud.events (run running.events.events running.cloud.store)
   pub line : running.events.line ≡ begin_line schedule.header + running.cloud.events
+  pub registers : KeepsRegisters schedule.header (replayed schedule).marks
 
 -- the schedule's run is at its end
 pub record IsOver (schedule : Schedule) (running : Running) (marks : List Mark) : Type 0 where

@@ -72,7 +72,7 @@ impl From<AllocError> for ReplayFault {
 }
 
 /// What is told of an event of this line that isn't taken.
-pub(crate) fn refused_at(line: u64, fault: StepFault) -> ReplayFault
+pub fn refused_at(line: u64, fault: StepFault) -> ReplayFault
     ensures { result ≡ refused_at line fault }
 {
     match fault {

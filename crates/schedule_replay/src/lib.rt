@@ -7,8 +7,9 @@ mod log;
 mod running;
 mod whole_run;
 
-pub use fault::ReplayFault;
+pub use fault::{ReplayFault, refused_at};
 pub use laws::{replayed_runs_may_run, worked_run_is_told};
+pub use log::Log;
 pub use whole_run::replay;
 
 #[cfg(test)]

@@ -15,7 +15,7 @@ use world_core::Marks;
 /// The text of a run on its way to a sink. Contracts see the bytes that are kept. After a call
 /// that failed it isn't used again.
 #[derive(Drop)]
-pub(crate) struct Log {
+pub struct Log {
     /// The lines that are written next.
     lines: String,
     buffer: SinkBuffer,
@@ -31,7 +31,7 @@ impl Model for Log {
 
 impl Log {
     /// A log that keeps nothing.
-    pub(crate) fn make(alloc: Global) -> Result<Log, AllocError>
+    pub fn make(alloc: Global) -> Result<Log, AllocError>
         ensures { IfOk result (λ log. log ≡ []) }
     {
         Ok(Log {
@@ -41,7 +41,7 @@ impl Log {
     }
 
     /// Passes on the lines of the marks of an event.
-    pub(crate) fn put<K: Sink>(&mut self, marks: Marks, out: &mut K) -> Result<(), DeviceFault>
+    pub fn put<K: Sink>(&mut self, marks: Marks, out: &mut K) -> Result<(), DeviceFault>
         ensures puts { (from : Option (List ℕ)) (text : List ℕ) → IsSaid from (K.taken out.old) self.old text
             → Says from (K.taken out.new) self.new (text ++ marks_text marks) result }
 
@@ -56,7 +56,7 @@ impl Log {
     }
 
     /// Passes on how many messages were sent, and all that is kept.
-    pub(crate) fn close<K: Sink>(&mut self, messages: u32, out: &mut K) -> Result<(), DeviceFault>
+    pub fn close<K: Sink>(&mut self, messages: u32, out: &mut K) -> Result<(), DeviceFault>
         ensures closes { (from : Option (List ℕ)) (text : List ℕ) → IsSaid from (K.taken out.old) self.old text
             → Flushes from (K.taken out.new) self.new (text ++ messages_line messages) result }
 
@@ -72,7 +72,7 @@ impl Log {
     }
 
     /// Passes on all that is kept.
-    pub(crate) fn flush<K: Sink>(&mut self, out: &mut K) -> Result<(), DeviceFault>
+    pub fn flush<K: Sink>(&mut self, out: &mut K) -> Result<(), DeviceFault>
         ensures flushes { (from : Option (List ℕ)) (text : List ℕ) → IsSaid from (K.taken out.old) self.old text
             → Flushes from (K.taken out.new) self.new text result }
 

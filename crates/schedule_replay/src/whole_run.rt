@@ -10,7 +10,8 @@ use std::alloc::Global;
 
 /// Runs a schedule, and writes the text of the run as it comes. It answers how many messages were
 /// sent. The whole text is read first: nothing is written where it is no schedule. Where the run
-/// refuses an event, the marks of those before it are written, and its line is told.
+/// refuses an event, the marks of those before it are written, and its line is told. In what is
+/// written then, or of a whole run, the history of each strong key is that of one register.
 pub fn replay<K: Sink>(alloc: Global, text: &[u8], out: &mut K) -> Result<u32, ReplayFault>
     ensures ends { ReplayEnds text.now (K.taken out.old) (K.taken out.new) result }
     ensures faults_stay { K.faults out.old ≤ K.faults out.new }

@@ -8,7 +8,7 @@ pub returns-clause-opens : goal.returns-clause-opens
 returns-clause-opens c =
     let h = c.in_ok-header in
     let o = h.field-0 in
-    opens_so _ o.header (events_at o.place c.args.text.now) c.args.text.now h.ensures.reads
+    opens_so _ o.header (events_at o.place c.args.text.now) c.schedules_may_happen.ensures c.args.text.now h.ensures.reads
     (record {
       events_are = c.make-events.ensures
           ∙ ap (λ n. let l : Left = record { events = events_at o.place c.args.text.now; line = n } in l) h.ensures.line;

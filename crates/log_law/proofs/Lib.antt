@@ -1,0 +1,16 @@
+pub mod Basics
+pub mod Replica
+pub mod Directory
+pub mod Strong
+pub mod Eventual
+pub mod Moves
+pub mod Calls
+pub mod Proxies
+pub mod Heads
+pub mod Causes
+pub mod Shown
+pub mod Events
+pub mod Kept
+pub mod Runs
+pub mod Schedules
+pub mod Logs
