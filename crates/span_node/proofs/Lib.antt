@@ -1,0 +1,12 @@
+pub mod Indexed
+pub mod Carrying
+pub mod Sending
+pub mod Growing
+pub mod Looping
+pub mod InOrder
+pub mod Turning
+pub mod Arriving
+pub mod Scripting
+pub mod Ordered
+pub mod Registers
+pub mod Telling

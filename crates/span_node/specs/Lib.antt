@@ -1,0 +1,9 @@
+pub mod Carried
+pub mod Faults
+pub mod InOrder
+pub mod Index
+pub mod Loops
+pub mod Mail
+pub mod Rounds
+pub mod Standing
+pub mod Traffic
