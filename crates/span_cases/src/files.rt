@@ -59,6 +59,14 @@ impl Files {
         Ok(())
     }
 
+    /// Adds the text so many times to the newest file, without line feeds.
+    pub fn add_unbroken(&mut self, count: u64, text: &str) -> Result<(), AllocError> {
+        for _ in 0..count {
+            self.add_unended(text)?;
+        }
+        Ok(())
+    }
+
     /// The file of a name: one that the list gave, else one that lies where the program runs.
     pub fn entry<R: Disk + AllocGlobal>(
         &self,

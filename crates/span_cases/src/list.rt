@@ -20,6 +20,11 @@ pub enum Line<'a> {
         count: u64,
         text: &'a str,
     },
+    /// `+COUNT TEXT`: the text so many times, without line feeds.
+    Unbroken {
+        count: u64,
+        text: &'a str,
+    },
     /// `span WORD ..`, and the options behind a ` ; `.
     Run {
         command: &'a str,
@@ -44,7 +49,16 @@ pub fn line_of(line: &str) -> Line<'_> {
         return Line::Unended { text };
     }
     if let Some(repeated) = line.strip_prefix('*') {
-        return repeated_of(repeated);
+        return match counted_of(repeated) {
+            Some((count, text)) => Line::Repeated { count, text },
+            None => Line::Unknown,
+        };
+    }
+    if let Some(unbroken) = line.strip_prefix('+') {
+        return match counted_of(unbroken) {
+            Some((count, text)) => Line::Unbroken { count, text },
+            None => Line::Unknown,
+        };
     }
     if line == "span" || line.starts_with("span ") {
         return run_line_of(line);
@@ -52,12 +66,10 @@ pub fn line_of(line: &str) -> Line<'_> {
     Line::Unknown
 }
 
-fn repeated_of(repeated: &str) -> Line<'_> {
-    let (count, text) = repeated.split_once(' ').unwrap_or((repeated, ""));
-    match count.parse::<u64>() {
-        Ok(count) => Line::Repeated { count, text },
-        Err(_) => Line::Unknown,
-    }
+// A number, and the text behind the space after it. The text may be absent.
+fn counted_of(line: &str) -> Option<(u64, &str)> {
+    let (count, text) = line.split_once(' ').unwrap_or((line, ""));
+    Some((count.parse::<u64>().ok()?, text))
 }
 
 fn run_line_of(line: &str) -> Line<'_> {

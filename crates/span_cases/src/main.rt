@@ -3,6 +3,8 @@
 //! its line on standard error, and its exit status.
 #![tactic(auto)]
 
+mod deals;
+mod faults;
 mod files;
 mod list;
 mod run;
@@ -32,6 +34,7 @@ fn take(rt: &HostRuntime, files: &mut Files, line: &str) -> io::Result<()> {
         Line::Text { text } => Ok(files.add(text)?),
         Line::Unended { text } => Ok(files.add_unended(text)?),
         Line::Repeated { count, text } => Ok(files.add_repeated(count, text)?),
+        Line::Unbroken { count, text } => Ok(files.add_unbroken(count, text)?),
         Line::Run { command, options } => match run_of(rt.alloc(), command, options)? {
             Some(run) => tell_run(rt, files, &run),
             None => println!(rt; "no such option"),

@@ -1,3 +1,5 @@
+use crate::deals::deals_of;
+use crate::faults::Faults;
 use span_base::Word;
 use std::alloc::{AllocError, Global};
 
@@ -6,12 +8,13 @@ use std::alloc::{AllocError, Global};
 pub struct Run {
     /// The words after `span`.
     pub words: Vec<Word>,
-    /// The call of the shelf that fails, counted from 1.
-    pub shelf: Option<u64>,
-    /// The call of the sink that fails.
-    pub sink: Option<u64>,
-    /// Each call of the shelf fails once, and then each of the sink, until a run has no such call.
+    /// The calls that fail.
+    pub faults: Faults,
+    /// Each call of the shelf fails once, then each of the sink, and then each of the link, until a
+    /// run has no such call.
     pub each_fault: bool,
+    /// What the link gives next, deal by deal, as a text; the usual link gives what was sent.
+    pub deals: Option<String>,
     /// The lines of trees are left out.
     pub no_trees: bool,
     /// What a status means is told in words too.
@@ -32,9 +35,9 @@ pub fn run_of(
 ) -> Result<Option<Run>, AllocError> {
     let mut run = Run {
         words: words_of(alloc, command)?,
-        shelf: None,
-        sink: None,
+        faults: Faults::none(),
         each_fault: false,
+        deals: None,
         no_trees: false,
         in_words: false,
         each_front: false,
@@ -67,6 +70,13 @@ fn take_option(alloc: Global, run: &mut Run, option: &str) -> Result<bool, Alloc
         run.into = Some(String::from_str(alloc, name)?);
         return Ok(true);
     }
+    if let Some(deals) = option.strip_prefix("deals ") {
+        if deals_of(alloc, deals)?.is_none() {
+            return Ok(false);
+        }
+        run.deals = Some(String::from_str(alloc, deals)?);
+        return Ok(true);
+    }
     match option {
         "each-fault" => run.each_fault = true,
         "each-front" => run.each_front = true,
@@ -77,7 +87,7 @@ fn take_option(alloc: Global, run: &mut Run, option: &str) -> Result<bool, Alloc
     Ok(true)
 }
 
-// Takes `shelf N` or `sink N`.
+// Takes `shelf N`, `sink N` or `link N`.
 fn take_failing_call(run: &mut Run, option: &str) -> bool {
     let Some((device, number)) = option.split_once(' ') else {
         return false;
@@ -86,8 +96,9 @@ fn take_failing_call(run: &mut Run, option: &str) -> bool {
         return false;
     };
     match device {
-        "shelf" => run.shelf = Some(call),
-        "sink" => run.sink = Some(call),
+        "shelf" => run.faults.shelf = Some(call),
+        "sink" => run.faults.sink = Some(call),
+        "link" => run.faults.link = Some(call),
         _ => return false,
     }
     true

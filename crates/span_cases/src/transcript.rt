@@ -1,7 +1,10 @@
+use crate::deals::deals_of;
+use crate::faults::{Faults, failing};
 use crate::files::Files;
 use crate::run::Run;
-use span_base::{Bytes, FileEntry, MemShelf, MemSink, Word};
-use span_top::{Status, explain, span};
+use frame_link::{Link, MemLink};
+use span_base::{Bytes, FileEntry, MemShelf, MemSink, Shelf, Sink, Word};
+use span_top::{Status, Unwatched, explain, span};
 use std::alloc::{AllocError, Global};
 use std::{io, str};
 
@@ -13,7 +16,7 @@ pub fn tell_run(rt: &HostRuntime, files: &mut Files, run: &Run) -> io::Result<()
     } else if run.each_front {
         tell_each_front(rt, files, run)
     } else {
-        let end = tell(rt, files, run, run.shelf, run.sink)?;
+        let end = tell(rt, files, run, run.faults)?;
         keep(files, run, &end)
     }
 }
@@ -32,15 +35,9 @@ fn keep(files: &mut Files, run: &Run, end: &End) -> io::Result<()> {
 
 // Runs, and writes what came of it: the bytes that were written, the line on standard error, in
 // words too where this is asked, and the exit status.
-fn tell(
-    rt: &HostRuntime,
-    files: &Files,
-    run: &Run,
-    shelf: Option<u64>,
-    sink: Option<u64>,
-) -> io::Result<End> {
+fn tell(rt: &HostRuntime, files: &Files, run: &Run, faults: Faults) -> io::Result<End> {
     let entries = entries_of(rt, files, run)?;
-    let mut end = end_of(rt.alloc(), entries, run, shelf, sink)?;
+    let mut end = end_of(rt.alloc(), entries, run, faults)?;
     tell_bytes(rt, run, end.sink.bytes())?;
     let line = end.status.line();
     print!(rt; "{line}")?;
@@ -55,29 +52,48 @@ fn tell(
 }
 
 // Runs with the first call of the shelf failing, then with the second, until a run has no such call,
-// then so with the calls of the sink, and then with none.
+// then so with the calls of the sink and of the link, and then with none.
 fn tell_each_fault(rt: &HostRuntime, files: &Files, run: &Run) -> io::Result<()> {
     for call in 1..u64::MAX {
-        let entries = entries_of(rt, files, run)?;
-        let end = end_of(rt.alloc(), entries, run, Some(call), None)?;
-        if end.status != Status::ReadFault {
+        if !tell_fault(rt, files, run, "shelf", call, Faults::of_shelf(call))? {
             break;
         }
-        println!(rt; "shelf {call}")?;
-        tell(rt, files, run, Some(call), None)?;
     }
     for call in 1..u64::MAX {
-        let entries = entries_of(rt, files, run)?;
-        let end = end_of(rt.alloc(), entries, run, None, Some(call))?;
-        if end.status != Status::WriteFault {
+        if !tell_fault(rt, files, run, "sink", call, Faults::of_sink(call))? {
             break;
         }
-        println!(rt; "sink {call}")?;
-        tell(rt, files, run, None, Some(call))?;
+    }
+    for call in 1..u64::MAX {
+        if !tell_fault(rt, files, run, "link", call, Faults::of_link(call))? {
+            break;
+        }
     }
     println!(rt; "none")?;
-    tell(rt, files, run, None, None)?;
+    tell(rt, files, run, Faults::none())?;
     Ok(())
+}
+
+// Runs with a call failing, and tells the run where it met that fault. It answers whether it did.
+fn tell_fault(
+    rt: &HostRuntime,
+    files: &Files,
+    run: &Run,
+    device: &str,
+    call: u64,
+    faults: Faults,
+) -> io::Result<bool> {
+    let entries = entries_of(rt, files, run)?;
+    let end = end_of(rt.alloc(), entries, run, faults)?;
+    let met = matches!(
+        end.status,
+        Status::ReadFault | Status::WriteFault | Status::LinkFault
+    );
+    if met {
+        println!(rt; "{device} {call}")?;
+        tell(rt, files, run, faults)?;
+    }
+    Ok(met)
 }
 
 // Runs with no byte of the last file, then with the first, and so on to the whole file. A length is
@@ -86,24 +102,44 @@ fn tell_each_front(rt: &HostRuntime, files: &Files, run: &Run) -> io::Result<()>
     let Some(last) = entries_of(rt, files, run)?.pop() else {
         return println!(rt; "no file");
     };
-    let mut before = None;
+    // No status line.
+    let mut before = String::from_str(rt.alloc(), "none")?;
     for length in 0..last.bytes.len() + 1 {
-        let mut entries = entries_of(rt, files, run)?;
-        entries.pop();
-        let front = last.bytes.as_slice()[..length].to_vec(rt.alloc())?;
-        entries.push(FileEntry {
-            name: Word::from_string(String::from_str(rt.alloc(), last.name.as_str())?),
-            bytes: Bytes::from_vec(front),
-        })?;
-        let status = end_of(rt.alloc(), entries, run, None, None)?.status;
-        if before != Some(status) {
-            let line = status.line();
+        let line = front_line(rt, files, run, &last, length)?;
+        if line.as_str() != before.as_str() {
             println!(rt; "front {length}")?;
             print!(rt; "{line}")?;
         }
-        before = Some(status);
+        before = line;
     }
     Ok(())
+}
+
+// The status line of a run in which the last file is cut at this length.
+fn front_line(
+    rt: &HostRuntime,
+    files: &Files,
+    run: &Run,
+    last: &FileEntry,
+    length: usize,
+) -> io::Result<String> {
+    let mut entries = entries_of(rt, files, run)?;
+    entries.pop();
+    entries.push(front_of(rt.alloc(), last, length)?)?;
+    let end = end_of(rt.alloc(), entries, run, Faults::none())?;
+    let line = end.status.line();
+    let mut text = String::new(rt.alloc());
+    write!(text, "{line}")?;
+    Ok(text)
+}
+
+// The file, cut at this length.
+fn front_of(alloc: Global, last: &FileEntry, length: usize) -> Result<FileEntry, AllocError> {
+    let length = length.min(last.bytes.len());
+    Ok(FileEntry {
+        name: Word::from_string(String::from_str(alloc, last.name.as_str())?),
+        bytes: Bytes::from_vec(last.bytes.as_slice()[..length].to_vec(alloc)?),
+    })
 }
 
 /// The end of a run.
@@ -130,12 +166,14 @@ fn end_of(
     alloc: Global,
     entries: Vec<FileEntry>,
     run: &Run,
-    shelf: Option<u64>,
-    sink: Option<u64>,
+    faults: Faults,
 ) -> Result<End, AllocError> {
-    let mut shelf = MemShelf::make(entries, failing(alloc, shelf)?);
-    let mut sink = MemSink::make(alloc, failing(alloc, sink)?);
-    let status = span(alloc, run.words.as_slice(), &mut shelf, &mut sink);
+    let shelf_calls = failing(alloc, faults.shelf)?;
+    let sink_calls = failing(alloc, faults.sink)?;
+    let mut link = link_of(alloc, run, faults)?;
+    let mut shelf = MemShelf::make(entries, shelf_calls);
+    let mut sink = MemSink::make(alloc, sink_calls);
+    let status = status_of(alloc, run, &mut shelf, &mut sink, &mut link);
     Ok(End {
         status,
         shelf,
@@ -143,13 +181,29 @@ fn end_of(
     })
 }
 
-// The list of the calls that fail.
-fn failing(alloc: Global, call: Option<u64>) -> Result<Vec<u64>, AllocError> {
-    let mut calls = Vec::new(alloc);
-    if let Some(call) = call {
-        calls.push(call)?;
+// How the words of a run end.
+fn status_of<S: Shelf, K: Sink, L: Link>(
+    alloc: Global,
+    run: &Run,
+    shelf: &mut S,
+    sink: &mut K,
+    link: &mut L,
+) -> Status {
+    let mut nobody = Unwatched;
+    span(alloc, run.words.as_slice(), shelf, sink, link, &mut nobody)
+}
+
+// The link of a run. It gives each frame once and in order, but for the deals that are told.
+fn link_of(alloc: Global, run: &Run, faults: Faults) -> Result<MemLink, AllocError> {
+    let failing = failing(alloc, faults.link)?;
+    let deals = match &run.deals {
+        Some(text) => deals_of(alloc, text.as_str())?,
+        None => None,
+    };
+    match deals {
+        Some(deals) => Ok(MemLink::make(alloc, deals, failing)),
+        None => Ok(MemLink::make(alloc, Vec::new(alloc), failing)),
     }
-    Ok(calls)
 }
 
 // Writes the bytes of a run, without the lines of trees where this is asked, or nothing of them where

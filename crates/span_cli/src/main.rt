@@ -1,4 +1,4 @@
-//! The program `span`: its arguments, the files that it reads and its output are the system's.
+//! The program `span`: its arguments, the files that it reads, its output and its link are the system's.
 #![tactic(auto)]
 
 ghost use Rattle.std.specs.Prelude.{◌≡◌};
@@ -7,15 +7,20 @@ ghost use Rattle.span_top.specs.Codes.{code_of};
 ghost use Rattle.span_top.specs.Spans.{RunEnds};
 
 mod file_shelf;
+#[cfg(test)]
+mod loop_tests;
+mod progress;
 mod std_sink;
 mod words;
 
 use file_shelf::FileShelf;
+use progress::Progress;
 use span_base::Word;
 use span_top::{Status, explain, span};
 use std::io::{self, IsTerminal};
 use std::process::ExitCode;
 use std_sink::StdSink;
+use tcp_link::TcpLink;
 use words::{Request, read_request};
 
 /// The version of the program.
@@ -30,12 +35,14 @@ usage:
   span check WORLD PLAN     checks the plan in a file against a world, and writes what it shows
   span replay SCHEDULE      runs the schedule in a file, and writes what its clients see
   span audit LOG            judges the log in a file, and writes what it has
+  span loop SCRIPT          runs the script in a file, its messages over TCP on this machine
   span gen N                runs N calls whose events are drawn, 0 to 20,000, and writes how they ended
   span --help               writes this text
   span --version            writes the version
 
 A world is read as TOML where the file's name ends in .toml, else as CSV. The search for a set's
 policy may write BUDGET lines, from 1 to 1,000,000,000; without the word 1,000,000.
+A script is a schedule that delivers no message: what arrives is delivered.
 The exit status is 0 where the plan is complete or accepted, the whole schedule was run, or the log
 breaks no clause. Any other is told on standard error.
 ";
@@ -57,7 +64,16 @@ fn run(rt: &HostRuntime, words: &[Word]) -> ExitCode
 {
     let mut shelf = FileShelf::new(rt);
     let mut out = StdSink::new(io::writer(rt));
-    let status = span(rt.alloc(), words, &mut shelf, &mut out);
+    let mut link = TcpLink::new(rt);
+    let mut progress = Progress::new(rt);
+    let status = span(
+        rt.alloc(),
+        words,
+        &mut shelf,
+        &mut out,
+        &mut link,
+        &mut progress,
+    );
     let code = end(rt, &status);
     if !matches!(status, Status::Done) && rt.stderr().is_terminal() {
         if let Ok(text) = explain(rt.alloc(), words, &mut shelf, &status) {

@@ -57,7 +57,8 @@ ends_unread files name old (status.BadEvent line cause) refused = absurd refused
 ends_unread files name old status.ReadFault refused = refl
 ends_unread files name old status.WriteFault refused = absurd refused
 ends_unread files name old (status.TooLarge file line what number) refused = (refused.0, inl refused.1, refl)
-ends_unread files name old (status.NotBuilt line) refused = absurd refused
+ends_unread files name old status.LinkFault refused = absurd refused
+ends_unread files name old (status.Strange to frame) refused = absurd refused
 
 pub ends_read : (files : Option Files) (name bytes : List ℕ) (old new : Option (List ℕ)) (s : Status) → ReadsFile files name 268435456 (Ok bytes) → BytesAudited bytes old new s → AuditEnds files name old new s
 ends_read files name bytes old new s held ends = ends files name held.0 held.1

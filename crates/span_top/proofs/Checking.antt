@@ -70,7 +70,8 @@ checks_none files world plan old (status.BadEvent line cause) refused = absurd r
 checks_none files world plan old status.ReadFault refused = inl (refused, refl)
 checks_none files world plan old status.WriteFault refused = absurd refused
 checks_none files world plan old (status.TooLarge file line what number) refused = inl (refused, refl)
-checks_none files world plan old (status.NotBuilt line) refused = absurd refused
+checks_none files world plan old status.LinkFault refused = absurd refused
+checks_none files world plan old (status.Strange to frame) refused = absurd refused
 
 pub checks_read : (w : Lists) (files : Option Files) (world plan : List ℕ) (old new : Option (List ℕ)) (s : Status) → FileSays files world (Ok w) → WorldChecked w files plan old new s → CheckEnds files world plan old new s
 checks_read w files world plan old new s file ends = ends world file

@@ -45,7 +45,8 @@ ends_unread files name budget old (status.BadEvent line cause) refused = absurd 
 ends_unread files name budget old status.ReadFault refused = (refused, refl)
 ends_unread files name budget old status.WriteFault refused = absurd refused
 ends_unread files name budget old (status.TooLarge file line what number) refused = (refused, refl)
-ends_unread files name budget old (status.NotBuilt line) refused = absurd refused
+ends_unread files name budget old status.LinkFault refused = absurd refused
+ends_unread files name budget old (status.Strange to frame) refused = absurd refused
 
 -- `plan` never answers that its words are of no command
 pub not_usage : (files : Option Files) (name : List ℕ) (budget : ℕ) (old new : Option (List ℕ)) (s : Status) → PlanEnds files name budget old new s → s ≡ status.Usage → ⊥

@@ -6,3 +6,6 @@ pub mod Auditing
 pub mod Generating
 pub mod Replaying
 pub mod Checking
+pub mod ReplayLaws
+pub mod Looping
+pub mod Accepting

@@ -46,7 +46,8 @@ replays_none files name old (status.BadEvent line cause) refused = absurd refuse
 replays_none files name old status.ReadFault refused = refl
 replays_none files name old status.WriteFault refused = absurd refused
 replays_none files name old (status.TooLarge file line what number) refused = (refused.0, inl (refused.1, refl))
-replays_none files name old (status.NotBuilt line) refused = absurd refused
+replays_none files name old status.LinkFault refused = absurd refused
+replays_none files name old (status.Strange to frame) refused = absurd refused
 
 pub replays_read : (files : Option Files) (name bytes : List ℕ) (old new : Option (List ℕ)) (s : Status) → ReadsFile files name 67108864 (Ok bytes) → BytesReplayed bytes old new s → ReplayCommandEnds files name old new s
 replays_read files name bytes old new s held ends = ends files name held.0 held.1

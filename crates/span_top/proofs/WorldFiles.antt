@@ -49,7 +49,8 @@ reads_none files name (status.BadEvent line cause) refused = absurd refused
 reads_none files name status.ReadFault refused = tt
 reads_none files name status.WriteFault refused = absurd refused
 reads_none files name (status.TooLarge file line what number) refused = (refused.0, inl refused.1)
-reads_none files name (status.NotBuilt line) refused = absurd refused
+reads_none files name status.LinkFault refused = absurd refused
+reads_none files name (status.Strange to frame) refused = absurd refused
 
 pub taken : (files : Option Files) (name bytes : List ℕ) (result : Result Lists Status) → ReadsFile files name 16777216 (Ok bytes) → BytesRead name bytes result → ReadsWorld files name result
 taken files name bytes result held reads = reads files held.0 held.1

@@ -1,7 +1,7 @@
 -- The exit status of each ending.
 use Rattle.std.specs.Prelude.{ℕ}
 use Rattle.span_top.specs.declared.status.Status.{Status}
-use Rattle.span_top.specs.declared.status.Status.TheVariants.{Done, NoMemory, Usage, Absent, BadInput, NoPolicy, Budget, Refused, BadEvent, ReadFault, WriteFault, TooLarge, NotBuilt}
+use Rattle.span_top.specs.declared.status.Status.TheVariants.{Done, NoMemory, Usage, Absent, BadInput, NoPolicy, Budget, Refused, BadEvent, ReadFault, WriteFault, LinkFault, TooLarge, Strange}
 
 -- the number with which the program ends
 abbrev pub code_of : Status → ℕ
@@ -16,5 +16,6 @@ code_of (Refused line cause) = 7
 code_of (BadEvent line cause) = 8
 code_of ReadFault = 9
 code_of WriteFault = 10
+code_of LinkFault = 11
 code_of (TooLarge file line what number) = 12
-code_of (NotBuilt line) = 14
+code_of (Strange to frame) = 13

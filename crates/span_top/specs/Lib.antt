@@ -7,4 +7,7 @@ pub mod Audited
 pub mod Generated
 pub mod Replayed
 pub mod Checked
+pub mod Looped
 pub mod Spans
+pub mod ReplayLaws
+pub mod PlanLaws

@@ -13,7 +13,8 @@ use Rattle.span_top.specs.Planned.{TakesNothing}
 abbrev pub ReplaysFile : Option Files → List ℕ → Option (List ℕ) → Option (List ℕ) → Result ℕ ReplayFault → Type 0
 ReplaysFile files name old new result = FileIs files name 67108864 (λ bytes. ReplayEnds bytes old new result)
 
--- how `replay` ends with a named file, and what the sink took
+-- how `replay` ends with a named file, and what the sink took. At `Done` that is the text of the whole run of the file's schedule; at `BadEvent`, and where an
+-- event would pass a limit, that of its marks before the refused event; and in both the history of each strong key is that of one register
 abbrev pub ReplayCommandEnds : Option Files → List ℕ → Option (List ℕ) → Option (List ℕ) → Status → Type 0
 ReplayCommandEnds files name old new Done = (messages : ℕ) × ReplaysFile files name old new (Ok messages)
 ReplayCommandEnds files name old new NoMemory = TakesNothing old new ⊎ ReplaysFile files name old new (Err fault.NoMemory)

@@ -1,6 +1,6 @@
 ghost use Rattle.std.specs.Prelude.{◌≡◌, if◌then◌else◌, option_map, None, IfSome, ◌≤◌, ◌&&◌, codes};
 ghost use Rattle.std.specs.Str.{bytes_eq};
-ghost use Rattle.span_top.specs.Words.{number_between, is_file, a_plan, a_check, a_replay, an_audit, a_run_of, unserved, run_within, asked_where, is_short_command, short_command, long_command, plan_within, command_of, asked_by};
+ghost use Rattle.span_top.specs.Words.{number_between, is_file, a_plan, a_check, a_replay, an_audit, a_loop, a_run_of, run_within, asked_where, short_command, long_command, plan_within, command_of, asked_by};
 
 use span_base::{Word, read_number};
 
@@ -18,8 +18,8 @@ pub enum Command<'a> {
     Audit { log: &'a str },
     /// `gen N`: a run of so many calls whose events are drawn.
     Gen { calls: u32 },
-    /// A command that isn't served yet.
-    Unserved,
+    /// `loop SCRIPT`: the run of the script in the file of this name over a link.
+    Loop { script: &'a str },
 }
 
 /// The greatest number of calls that `gen` makes.
@@ -55,7 +55,7 @@ fn short_command<'a>(word: &str, last: &'a Word) -> Option<Command<'a>>
     if word == "gen" {
         return gen_command(last);
     }
-    unserved_where(is_short_command(word, last))
+    loop_command(word, last)
 }
 
 // The command to plan a world with the usual budget, where its file has a name.
@@ -104,6 +104,17 @@ fn gen_command<'a>(calls: &Word) -> Option<Command<'a>>
     })
 }
 
+// The command to run a script over a link, where the word says so and its file has a name.
+fn loop_command<'a>(word: &str, script: &'a Word) -> Option<Command<'a>>
+    ensures { option_map asked_by result ≡ asked_where (bytes_eq word.now (codes "loop") && is_file script.now) (a_loop script.now) }
+{
+    if word != "loop" || script.is_empty() {
+        return None;
+    }
+    let script = script.as_str();
+    Some(Command::Loop { script })
+}
+
 fn long_command<'a>(word: &str, world: &'a Word, last: &'a Word) -> Option<Command<'a>>
     ensures { option_map asked_by result ≡ long_command word.now world.now last.now }
 {
@@ -135,19 +146,6 @@ fn plan_within<'a>(world: &'a Word, budget: &Word) -> Option<Command<'a>>
     let world = world.as_str();
     let budget = number_between(1, MOST_LINES, budget)?;
     Some(Command::Plan { world, budget })
-}
-
-// A command that isn't served yet, where the words are right.
-fn unserved_where<'a>(right: bool) -> Option<Command<'a>>
-    ensures { option_map asked_by result ≡ asked_where right unserved }
-{
-    if right { Some(Command::Unserved) } else { None }
-}
-
-fn is_short_command(word: &str, last: &Word) -> bool
-    ensures { result ≡ is_short_command word.now last.now }
-{
-    word == "loop" && !last.is_empty()
 }
 
 #[tactic(auto, using(crate::proofs::Commands::words))]

@@ -67,9 +67,11 @@ pub fn explain<S: Shelf>(
             let asked = asked_by_limit(*what);
             write!(text, "{number} is too large: {asked}")?;
         }
-        Status::NotBuilt { .. } => {
-            text.push_str(
-                "this isn't served yet; what is planned today stands in docs/FORMATS.md",
+        Status::LinkFault => text.push_str("the link failed")?,
+        Status::Strange { to, .. } => {
+            write!(
+                text,
+                "a frame arrived for node {to} that is no message sent to it"
             )?;
         }
     }
@@ -84,8 +86,8 @@ fn file_name(words: &[Word], file: u8) -> &str {
     }
 }
 
-// Adds the name of a file and the record, or the line of a log, at a line of it. Line 0 is the whole
-// file.
+// Adds the name of a file and the record, or the line of a text that isn't a world's, at a line of
+// it. Line 0 is the whole file.
 fn write_place<S: Shelf>(
     alloc: Global,
     text: &mut String,
@@ -99,7 +101,7 @@ fn write_place<S: Shelf>(
     if line == 0 {
         return Ok(());
     }
-    if is_audit(words) {
+    if has_lines(words, file) {
         return write!(text, "line {line}: ");
     }
     if names_toml(name) {
@@ -113,10 +115,14 @@ fn write_place<S: Shelf>(
     write!(text, "record {line}: ")
 }
 
-// Whether the words ask for the audit of a log.
-fn is_audit(words: &[Word]) -> bool {
-    match words.first() {
-        Some(word) => word.as_str() == "audit",
-        None => false,
+// Whether this file of the command is no world, so that its places are lines.
+fn has_lines(words: &[Word], file: u8) -> bool {
+    let Some(word) = words.first() else {
+        return false;
+    };
+    match word.as_str() {
+        "replay" | "audit" | "loop" => true,
+        "check" => file == 1,
+        _ => false,
     }
 }

@@ -9,8 +9,8 @@ use schedule_replay::{ReplayFault, replay};
 use span_base::{Bytes, Shelf, Sink};
 use std::alloc::Global;
 
-/// The greatest number of bytes of a schedule's file.
-const SCHEDULE_BYTES: u64 = 67_108_864;
+/// The greatest number of bytes of the file of a schedule or a script.
+pub(crate) const SCHEDULE_BYTES: u64 = 67_108_864;
 
 /// Runs the schedule in the named file, and writes the text of its run.
 #[tactic(auto, using(crate::proofs::Replaying::ends))]

@@ -1,8 +1,8 @@
-use span_base::{Cause, SetId, What};
+use span_base::{Bytes, Cause, SetId, What};
 use std::fmt;
 
 /// How a run of the program ends.
-#[derive(Clone, Copy, Debug, PartialEq, Eq)]
+#[derive(Debug, Drop, PartialEq, Eq)]
 pub enum Status {
     /// All was done.
     Done,
@@ -45,6 +45,8 @@ pub enum Status {
     ReadFault,
     /// The output can't be written.
     WriteFault,
+    /// The link failed.
+    LinkFault,
     /// What was counted in a file passes its limit.
     TooLarge {
         file: u8,
@@ -52,9 +54,10 @@ pub enum Status {
         what: What,
         number: u128,
     },
-    /// The words or the file are of a form that isn't served yet.
-    NotBuilt {
-        line: u64,
+    /// This frame arrived for the node `to`, and no message that was sent is it.
+    Strange {
+        to: u16,
+        frame: Bytes,
     },
 }
 
@@ -78,25 +81,26 @@ impl Status {
             Status::BadEvent { .. } => 8,
             Status::ReadFault => 9,
             Status::WriteFault => 10,
+            Status::LinkFault => 11,
             Status::TooLarge { .. } => 12,
-            Status::NotBuilt { .. } => 14,
+            Status::Strange { .. } => 13,
         }
     }
 
     /// What the program writes on standard error: nothing at `Done`, else one line.
-    pub fn line(&self) -> StatusLine {
-        StatusLine { status: *self }
+    pub fn line(&self) -> StatusLine<'_> {
+        StatusLine { status: self }
     }
 }
 
 /// What the program writes on standard error where it ends so: nothing at `Done`, else `span: `, the
 /// status, and a line feed.
 #[derive(Clone, Copy, Debug)]
-pub struct StatusLine {
-    status: Status,
+pub struct StatusLine<'a> {
+    status: &'a Status,
 }
 
-impl fmt::Display for StatusLine {
+impl fmt::Display for StatusLine<'_> {
     fn fmt<W: fmt::Write>(&self, f: &mut fmt::Formatter<W>) -> fmt::Result {
         match self.status {
             Status::Done => Ok(()),
@@ -128,7 +132,19 @@ impl fmt::Display for Status {
                 what,
                 number,
             } => write!(f, "TooLarge {file} {line} {} {number}", what.word()),
-            Status::NotBuilt { line } => write!(f, "NotBuilt {line}"),
+            Status::LinkFault => f.write_str("LinkFault"),
+            Status::Strange { to, frame } => {
+                write!(f, "Strange {to} ")?;
+                write_hex(f, frame.as_slice())
+            }
         }
     }
+}
+
+/// Two lower-case hexadecimal digits for each byte.
+fn write_hex<W: fmt::Write>(f: &mut fmt::Formatter<W>, bytes: &[u8]) -> fmt::Result {
+    for byte in bytes {
+        write!(f, "{byte:02x}")?;
+    }
+    Ok(())
 }

@@ -22,7 +22,13 @@ pub fn asked_by_cause(cause: Cause) -> &'static str {
         Cause::Key => {
             "the top keys are span and the arrays of tables dc, link, set and use; a table has just the keys of its kind, each with its kind of value"
         }
-        Cause::Syntax => "a line is of a form that is allowed at its place",
+        Cause::Syntax =>
+            "a line is of a form that is allowed at its place, and ends with a line feed",
+        Cause::End => "a plan ends with the line end, and with nothing after it",
+        Cause::Range => {
+            "the replicas and the set of a policy are there, and a table lists a set once"
+        }
+        Cause::Policy => "a policy is sound, and one that is published has its set's mode",
         other => other.word(),
     }
 }
@@ -54,6 +60,23 @@ pub fn asked_by_clause(cause: Cause) -> &'static str {
         Cause::Value => {
             "a read gives the value of a ticket in an earlier line, or the empty one with stamp zero"
         }
+        Cause::Set => "the parts of a plan are those of the world's sets, in order",
+        Cause::TooLong => "a tree has no line after it is whole",
+        Cause::VarUnknown => "a tree branches on a variable of the set's program",
+        Cause::VarTwice => "a tree branches once on a variable on a path",
+        Cause::RowUnknown => "a leaf takes rows of the set's program",
+        Cause::Range => "a leaf's multipliers are in their ranges, and its rows rise",
+        Cause::OpenLeaf => "a leaf's value passes what its result says",
+        Cause::Unfinished => "a set's search came to its end within the budget",
+        Cause::TooShort => "a tree is whole at its result",
+        Cause::BoundedLeaf => {
+            "where a result is that no policy is allowed, each leaf shows that no assignment is feasible"
+        }
+        Cause::Policy => {
+            "the lines of a policy are those of its mode, with the members and centres in order"
+        }
+        Cause::Rule => "a plan's policy is allowed for its set",
+        Cause::Cost => "a plan's policy costs what its result says",
         Cause::Dead => "no read gives the ticket of a write that ended without effect",
         Cause::Order => {
             "a call that began after another was answered takes effect after it, and a write once"
@@ -72,13 +95,23 @@ pub fn asked_by_limit(what: What) -> &'static str {
         What::Object => "an object has at most 100,000 KiB",
         What::Latency => "a latency or a goal is at most 1,000,000 ms",
         What::F => "a set stands at most 3 failures",
-        What::Centres => "a world has at most 16 centres",
-        What::Sets => "a world has at most 1,000 sets",
+        What::Centres => "there are at most 16 centres",
+        What::Sets => "a world has at most 1,000 sets, a schedule 64",
         What::Members => "a set has at most 8 members",
         What::Providers => "a set asks for at most 16 providers",
-        What::Bytes =>
-            "the file of a world has at most 16,777,216 bytes, that of a log 268,435,456",
+        What::Bytes => {
+            "the file of a world has at most 16,777,216 bytes, that of a schedule 67,108,864, that of a log 268,435,456 and that of a plan 4,294,967,295"
+        }
         What::Lines => "a log has at most 4,000,000 lines",
+        What::Line => "a line has at most 1,048,576 bytes",
+        What::Replicas => "a schedule has at most 16 replicas",
+        What::Keys => "a schedule has at most 1,000 keys",
+        What::Proxies => "a schedule has at most 64 proxies",
+        What::Events => "a schedule has at most 1,000,000 events, and a script with its deliveries",
+        What::Number => "a number of a schedule is at most 4,294,967,295",
+        What::Messages => "a run sends at most 4,000,000 messages",
+        What::FrameBytes => "the messages of a run have at most 536,870,912 bytes",
+        What::Epochs => "a run has at most 1,000 epochs",
         other => other.word(),
     }
 }
