@@ -41,7 +41,8 @@ usage:
   span --version            writes the version
 
 A world is read as TOML where the file's name ends in .toml, else as CSV. The search for a set's
-policy may write BUDGET lines, from 1 to 1,000,000,000; without the word 1,000,000.
+policy may write BUDGET lines, from 1 to 1,000,000,000; without the word 1,000,000. In a terminal
+it tells on standard error how far it has come.
 A script is a schedule that delivers no message: what arrives is delivered.
 The exit status is 0 where the plan is complete or accepted, the whole schedule was run, or the log
 breaks no clause. Any other is told on standard error.
