@@ -35,7 +35,7 @@ use Rattle.history_audit.proofs.Changing.{Changes, changed}
 use Rattle.history_audit.proofs.Tickets.{one_state}
 use Rattle.history_audit.proofs.Events.{answered_cases, answered_still, counts_cases, counts_still, floor_still, read_cases, written_still, AnswersHere, CountsHere, ReadsHere, StoresHere}
 use Rattle.history_audit.proofs.Counting.{counted_stays, counted_with_none, floors_on}
-use Rattle.history_audit.proofs.FromCounted.{same_key}
+use Rattle.span_base.proofs.KeyIds.{same_key}
 
 -- the greater of two stamps is one of them, and neither is above it
 greater_is : (a b : Stamp) → (greater a b ≡ a) ⊎ (greater a b ≡ b)

@@ -3,6 +3,7 @@ use Rattle.std.proofs.Common.{◌≡◌, inl, inr, ℕ, Bool, true, false, List,
 use Rattle.std.specs.Prelude.{Contains}
 use Rattle.std.proofs.lemmas.Option.{same_Some}
 use Rattle.std.proofs.lemmas.List.Elements.{Contains-append_left}
+use Rattle.span_base.proofs.KeyIds.{same_key}
 use Rattle.span_base.specs.declared.ids.Call.{Call}
 use Rattle.span_base.specs.declared.ids.KeyId.{KeyId}
 use Rattle.ticket_rules.specs.declared.stamp.Stamp.{Stamp}
@@ -87,9 +88,6 @@ write_is_kept marks kept last drawn top h c once key call stamp value writes =
       | inl ended ↦ inl (in_log key marks (k.End call (r.Stored stamp)) ended).1
       | inr it ↦ inr ((in_log key marks (k.Ticket call stamp) it.0).1, given_in_log key marks stamp it.1)
     ]
-
-pub same_key : (a b : KeyId) → a.0 ≡ b.0 → a ≡ b
-same_key a b e = ap (λ (n : ℕ). let x : KeyId = record { 0 = n } in x) e
 
 -- a call that counts and was answered before another began was answered with its stamp
 answered_so : (marks : List Mark) (kept : Call → Option CallState) (last : ℕ → ℕ) (drawn : Stamp → Bool) (top : ℕ → Stamp) → Tells marks kept last drawn → Counted marks kept top → EachKeeps KeepsFirst [] marks → BeginsOnce marks

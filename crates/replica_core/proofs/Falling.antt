@@ -7,16 +7,13 @@ use Rattle.std.proofs.lemmas.Grind.{common_steps}
 use Rattle.span_base.specs.declared.ids.KeyId.{KeyId}
 use Rattle.ticket_rules.specs.declared.stamp.Stamp.{Stamp}
 use Rattle.ticket_rules.specs.Stamp.{stamp_cmp, IsAbove, IsAtMost, grants, stores}
-use Rattle.ticket_rules.proofs.StampOrder.{IsAbove-irrefl, IsAbove-trans}
+use Rattle.ticket_rules.proofs.StampOrder.{IsAbove-irrefl, IsAbove-trans, IsAtMost-refl}
 use Rattle.wire_msg.specs.declared.message.Message.{Message}
 use Rattle.wire_msg.specs.declared.message.Message.TheVariants.{Read, Ask, Store, Repair, Confirm, Freeze, Seed, Push, Lookup, Switch, Have, Yes, Held, Gone, Here, Switched}
 use Rattle.replica_core.specs.declared.kept.Kept.{Kept}
 use Rattle.replica_core.specs.Keeping.{opening, is_over, merge, after_merge, kept_after}
 use Rattle.replica_core.specs.Rule.{State, kept_at, request_key, step_at, step}
 use Rattle.replica_core.specs.Rising.{Rises}
-
-at_most_itself : (a : Stamp) → IsAtMost a a
-at_most_itself a h = IsAbove-irrefl a h
 
 at_most_above : (a b : Stamp) → IsAbove b a → IsAtMost a b
 at_most_above a b above h = IsAbove-irrefl a (IsAbove-trans a b a h above)
@@ -29,18 +26,18 @@ is_greater Greater h = refl
 -- the greater of two stamps isn't below the first
 greater_rises : (a b : Stamp) (t : Bool) → is_gt (stamp_cmp b a) ≡ t → IsAtMost a (cond t b a)
 greater_rises a b true h = at_most_above a b (is_greater (stamp_cmp b a) h)
-greater_rises a b false h = at_most_itself a
+greater_rises a b false h = IsAtMost-refl a
 
 -- a ticket that is granted isn't below the fence
 granted_rises : (t fence version : Stamp) → grants t fence version ≡ true → IsAtMost fence t
 granted_rises t fence version h = grind (arith, common_steps)
 
-rises_itself : (kept : Kept) → Rises kept kept
+pub rises_itself : (kept : Kept) → Rises kept kept
 rises_itself kept = record {
-  version = at_most_itself kept.version;
+  version = IsAtMost-refl kept.version;
   value = λ _. refl;
-  mark = at_most_itself kept.mark;
-  fence = at_most_itself kept.fence;
+  mark = IsAtMost-refl kept.mark;
+  fence = IsAtMost-refl kept.fence;
   frozen = omega arith;
 }
 
@@ -54,8 +51,8 @@ merge_rises kept stamp value =
     (λ above. record {
       version = at_most_above kept.version stamp (is_greater (stamp_cmp stamp kept.version) above);
       value = λ same. let P : Stamp → Type 0 = λ s. IsAbove s kept.version in absurd (IsAbove-irrefl kept.version (subst P same (is_greater (stamp_cmp stamp kept.version) above)));
-      mark = at_most_itself kept.mark;
-      fence = at_most_itself kept.fence;
+      mark = IsAtMost-refl kept.mark;
+      fence = IsAtMost-refl kept.fence;
       frozen = omega arith;
     })
     (rises_itself kept)
@@ -73,9 +70,9 @@ kept_after_rises kept (Read tag key epoch) = rises_itself kept
 kept_after_rises kept (Ask tag key stamp) =
     rises_either (not (is_over kept stamp.epoch) && grants stamp kept.fence kept.version) kept (record kept { fence = stamp }) kept
     (λ h. record {
-      version = at_most_itself kept.version;
+      version = IsAtMost-refl kept.version;
       value = λ _. refl;
-      mark = at_most_itself kept.mark;
+      mark = IsAtMost-refl kept.mark;
       fence = granted_rises stamp kept.fence kept.version (and_right (not (is_over kept stamp.epoch)) (grants stamp kept.fence kept.version) h);
       frozen = omega arith;
     })
@@ -84,17 +81,17 @@ kept_after_rises kept (Store tag key stamp value) =
     rises_either (not (is_over kept stamp.epoch) && stores stamp kept.fence) kept (merge kept stamp value) kept (λ _. merge_rises kept stamp value) (rises_itself kept)
 kept_after_rises kept (Repair tag key epoch stamp value) = after_merge_rises kept epoch stamp value
 kept_after_rises kept (Confirm tag key stamp) = record {
-  version = at_most_itself kept.version;
+  version = IsAtMost-refl kept.version;
   value = λ _. refl;
   mark = greater_rises kept.mark stamp (is_gt (stamp_cmp stamp kept.mark)) refl;
-  fence = at_most_itself kept.fence;
+  fence = IsAtMost-refl kept.fence;
   frozen = omega arith;
 }
 kept_after_rises kept (Freeze tag key epoch) = record {
-  version = at_most_itself kept.version;
+  version = IsAtMost-refl kept.version;
   value = λ _. refl;
-  mark = at_most_itself kept.mark;
-  fence = at_most_itself kept.fence;
+  mark = IsAtMost-refl kept.mark;
+  fence = IsAtMost-refl kept.fence;
   frozen = omega arith;
 }
 kept_after_rises kept (Seed tag key epoch stamp value) = after_merge_rises kept epoch stamp value

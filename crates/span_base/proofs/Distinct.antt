@@ -15,7 +15,7 @@ pub record DistinctSoFar (centres : List ℕ) (i : ℕ) (seen : DcSet) : Type 0 
 abbrev pub AllDifferent : List ℕ → Type 0
 AllDifferent cs = AllPairs (λ c d. c ≢ d) cs × All (λ c. c < 16) cs
 
-eq_or_not : (a b : ℕ) → (a ≡ b) ⊎ (a ≢ b)
+pub eq_or_not : (a b : ℕ) → (a ≡ b) ⊎ (a ≢ b)
 eq_or_not a b =
     (elim (a == b) as (λ (v : Bool). (a == b) ≡ v → (a ≡ b) ⊎ (a ≢ b))
     [ true ↦ λ e. inl (eqb-true a b e) | false ↦ λ e. inr (eqb-false a b e) ]) refl

@@ -1,6 +1,7 @@
 pub mod Appending
 pub mod Breaks
 pub mod Distinct
+pub mod KeyIds
 pub mod Lanes
 pub mod LookUp
 pub mod Sets

@@ -1,5 +1,5 @@
 -- Laws of sets of centres.
-use Rattle.std.proofs.Common.{IsTrue, subst, slice_index, slice_index_or, ◌-◌, length-append, ◌≡◌, ℕ, ◌<◌, ◌≤◌, ◌+◌, ◌/◌, ◌^◌, suc, zero, Bool, true, false, cond, ◌&&◌, ◌||◌, List, [], ◌∷◌, ◌++◌, length, refl, sym, ◌∙◌, ap, arith, min, max, nat_lt, ◌==◌, ◌≢◌}
+use Rattle.std.proofs.Common.{IsTrue, subst, slice_index, slice_index_or, ◌-◌, length-append, ◌≡◌, ℕ, ◌<◌, ◌≤◌, ◌+◌, ◌/◌, ◌^◌, suc, zero, Bool, true, false, cond, ◌&&◌, ◌||◌, List, [], ◌∷◌, ◌++◌, length, refl, sym, ◌∙◌, ap, arith, min, max, nat_lt, ◌==◌, ◌≢◌, ◌⊎◌, inl, inr}
 use Rattle.std.proofs.lemmas.Nat.{and_comm, or_comm}
 use Rattle.std.proofs.lemmas.Nat.Bits.{bit_at_and, bit_at_or, bit_at-pow_same, bit_at-pow_other, bit_at-lt, bit_at-zero, same_from_bits_below}
 use Rattle.std.specs.Int.{bit_at}
@@ -14,7 +14,16 @@ use Rattle.std.specs.List.Sorted.{IsStrictlyIncreasing}
 use Rattle.std.proofs.lemmas.List.Kept.{IsStrictlyIncreasing-filter}
 use Rattle.std.proofs.lemmas.List.FromFn.{get_or-range_with_len, length-range_with_len}
 use Rattle.std.proofs.Math.Seq.{get_or-append_seam}
+use Rattle.span_base.proofs.Distinct.{eq_or_not}
 use Rattle.span_base.specs.DcSet.{DcSet, bits_of, has, centres_below, centres_of, no_centre, meet, join, insert}
+
+pub and_left : (a b : Bool) → (a && b) ≡ true → a ≡ true
+and_left true b h = refl
+and_left false b h = h
+
+pub and_right : (a b : Bool) → (a && b) ≡ true → b ≡ true
+and_right true b h = h
+and_right false b h = absurd (cc h)
 
 min-one : (x y : ℕ) → x < 2 → y < 2 → (min x y == 1) ≡ ((x == 1) && (y == 1))
 min-one zero zero h k = refl
@@ -86,6 +95,19 @@ has-insert_same s d h =
 pub has-insert_other : (s : DcSet) (d e : ℕ) → e ≢ d → has (insert s d) e ≡ has s e
 has-insert_other s d e ne =
     ap (λ b. nat_lt e 16 && b) (bit-insert s d e 0 (omega arith) (bit_at-pow_other d e ne) ∙ or_false (bit_at (bits_of s) e == 1))
+
+-- who is in a set with one more
+pub has-insert_cases : (s : DcSet) (d e : ℕ) → has (insert s d) e ≡ true → (e ≡ d) ⊎ (has s e ≡ true)
+has-insert_cases s d e h = elim (eq_or_not e d) as (λ _. (e ≡ d) ⊎ (has s e ≡ true)) [ inl is ↦ inl is | inr ne ↦ inr (sym (has-insert_other s d e ne) ∙ h) ]
+
+-- who is in a set stays in it with one more
+pub has-insert_stays : (s : DcSet) (d e : ℕ) → d < 16 → has s e ≡ true → has (insert s d) e ≡ true
+has-insert_stays s d e lt h =
+    elim (eq_or_not e d) as (λ _. has (insert s d) e ≡ true) [ inl is ↦ subst (λ n. has (insert s d) n ≡ true) (sym is) (has-insert_same s d lt) | inr ne ↦ has-insert_other s d e ne ∙ h ]
+
+-- nobody is in the empty set
+pub none_in : (d : ℕ) → has no_centre d ≡ true → ⊥
+none_in d h = let none = has-no_centre d in cc
 
 -- no number from 16 on is in a set
 pub has-below : (s : DcSet) (d : ℕ) → has s d ≡ true → d < 16
@@ -190,10 +212,6 @@ count_mono p q more (x ∷ xs) = step (p x) (q x) (more x) (count_mono p q more 
     step true false h k = let e : false ≡ true = h refl in cc
     step false true h k = omega arith
     step false false h k = k
-
-and_left : (a b : Bool) → (a && b) ≡ true → a ≡ true
-and_left true b h = refl
-and_left false b h = h
 
 -- the meet of two sets has no more centres than either
 pub count-meet_left : (s t : DcSet) → length (centres_of (meet s t)) ≤ length (centres_of s)

@@ -18,6 +18,9 @@ IsAbove-irrefl a h = grind (arith, common_steps)
 pub IsAbove-trans : (a b c : Stamp) → IsAbove a b → IsAbove b c → IsAbove a c
 IsAbove-trans a b c ab bc = grind (arith, common_steps)
 
+pub IsAtMost-refl : (a : Stamp) → IsAtMost a a
+IsAtMost-refl a h = IsAbove-irrefl a h
+
 -- of two stamps one is above the other, or they are one
 pub stamps_apart : (a b : Stamp) → IsAbove a b ⊎ (a ≡ b) ⊎ IsAbove b a
 stamps_apart a b = grind (arith, common_steps)
