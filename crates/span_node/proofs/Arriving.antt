@@ -1,5 +1,5 @@
 -- What arrives in a round.
-use Rattle.std.proofs.Common.{◌≡◌, ℕ, ◌+◌, Bool, true, false, ◌&&◌, List, [], ◌∷◌, ◌++◌, length, map, take, drop, get_or, slice_get, refl, sym, ap, ◌∙◌, subst, arith}
+use Rattle.std.proofs.Common.{◌≡◌, ℕ, ◌+◌, ◌<◌, ◌≤◌, Bool, true, false, ◌&&◌, List, [], ◌∷◌, ◌++◌, length, map, take, drop, get_or, slice_get, refl, sym, ap, ◌∙◌, subst, arith}
 use Rattle.std.specs.Prelude.{◌==◌, Contains, Option, Some, None, option_map, Result, Ok, Err}
 use Rattle.std.specs.Result.{IsErrAnd}
 use Rattle.std.specs.Str.{bytes_eq}
@@ -7,6 +7,7 @@ use Rattle.std.proofs.lemmas.Bool.{eq-eqb}
 use Rattle.std.proofs.lemmas.Slice.Eq.{bytes_eq-Decides}
 use Rattle.std.proofs.lemmas.List.{append_assoc, append-nil, take-append-drop, take_all}
 use Rattle.std.proofs.lemmas.List.Sums.{fails_before_first}
+use Rattle.std.proofs.lemmas.Option.{slice_get_within, get_or_from_slice_get}
 use Rattle.run_marks.specs.declared.mark.Mark.{Mark}
 use Rattle.world_core.specs.declared.event.Event.{Event}
 use Rattle.world_core.specs.declared.event.Event.TheVariants.{Deliver}
@@ -19,11 +20,11 @@ use Rattle.frame_link.specs.Frames.{Sent, IsHonest, arrived}
 use Rattle.span_node.specs.declared.fault.LoopFault.{LoopFault}
 use Rattle.span_node.specs.declared.fault.LoopFault.TheVariants.{Bad, Limit, BadEvent, WriteFault, LinkFault, Strange, NoMemory}
 use Rattle.span_node.specs.declared.running.Running.{Running}
-use Rattle.span_node.specs.Traffic.{Traffic, Carries, Answered, Goes}
+use Rattle.span_node.specs.Traffic.{Traffic, Carries, Answered, Goes, IsFresh}
 use Rattle.span_node.specs.Carried.{carried, is_same, first_same}
 use Rattle.span_node.specs.Rounds.{Round, loop_events, answers_of, script_of}
 use Rattle.span_node.specs.InOrder.{Turn, frames_so_far, IsInStep}
-use Rattle.span_node.specs.Loops.{looped, IsIn, IsUnderWay, IsStrange}
+use Rattle.span_node.specs.Loops.{event_limit, looped, IsIn, IsUnderWay, IsStrange}
 use Rattle.span_node.specs.Mail.{Comes, IsOfLink}
 use Rattle.span_node.specs.Standing.{IsBegun, IsResting, IsNext, StandsBy, Stands, BeginsWith, Stops, Arrives}
 use Rattle.span_node.proofs.Carrying.{many}
@@ -64,6 +65,10 @@ not_sent frames sent none (k, within, is) =
     let same : is_same sent (get_or frames k sent) ≡ true = ap (is_same sent) is ∙ same_self sent in
     absurd (cc)
 
+-- and so it isn't one of them, by its number
+among_them : (frames : List Sent) (n : ℕ) (sent : Sent) → first_same frames sent ≡ length frames → Some sent ≡ slice_get frames n → ⊥
+among_them frames n sent none at = not_sent frames sent none (n, slice_get_within frames n sent (sym at), get_or_from_slice_get frames n sent sent (sym at))
+
 -- ---- the round
 
 module _ (schedule : Schedule) (marks : List Mark) (from : Traffic) where
@@ -99,16 +104,18 @@ module _ (schedule : Schedule) (marks : List Mark) (from : Traffic) where
     given = answers_of is.before ++ map Some is.last.arrived;
     open_round = answers_closed is.before is.last;
     carries = carries;
+    in_step = is.in_step;
   }
 
   -- the link was given the first frames
-  under_way : (link now : Traffic) (running : Running) (n : ℕ) (is : IsBegun schedule marks from link running)
+  under_way : (link now : Traffic) (running : Running) (n : ℕ) → running.cloud.events ≤ event_limit → (is : IsBegun schedule marks from link running)
       → Carries from now (take n (carried running.cloud.store.sent)) (answers_of is.before ++ map Some is.last.arrived) → IsUnderWay schedule marks from now
-  under_way link now running n is carries =
+  under_way link now running n few is carries =
       let given : List (Option Sent) = answers_of is.before ++ map Some is.last.arrived in
       let frames : List Sent = carried running.cloud.store.sent in
       record {
         rounds = is.before ++ is.last ∷ [];
+        few = omega (arith, few, is.run.count);
         unrefused = ap (λ (r : Run). r.refused) is.run.run_is;
         marks_are = ap (λ (r : Run). r.marks) is.run.run_is;
         frames = take n frames;
@@ -117,15 +124,15 @@ module _ (schedule : Schedule) (marks : List Mark) (from : Traffic) where
         among = among link now running is (take n frames) [] (carries_as from now (take n frames) (take n frames) given (given ++ []) refl (sym (append-nil given)) carries);
       }
 
-  pub stops_sending : (link now : Traffic) (running : Running) (n : ℕ) (fault : LoopFault) → IsOfLink fault → IsBegun schedule marks from link running
+  pub stops_sending : (link now : Traffic) (running : Running) (n : ℕ) (fault : LoopFault) → running.cloud.events ≤ event_limit → IsOfLink fault → IsBegun schedule marks from link running
       → Goes link now (take running.mail.sent (carried running.cloud.store.sent)) (take n (carried running.cloud.store.sent)) → Stops schedule marks from now fault
-  stops_sending link now running n LinkFault of is goes = under_way link now running n is (goes.on from (answers_of is.before ++ map Some is.last.arrived) is.carries)
-  stops_sending link now running n NoMemory of is goes = begins_begun link running is
-  stops_sending link now running n (Bad line cause) of is goes = absurd of
-  stops_sending link now running n (Limit line what number) of is goes = absurd of
-  stops_sending link now running n (BadEvent line cause) of is goes = absurd of
-  stops_sending link now running n WriteFault of is goes = absurd of
-  stops_sending link now running n (Strange to frame) of is goes = absurd of
+  stops_sending link now running n LinkFault few of is goes = under_way link now running n few is (goes.on from (answers_of is.before ++ map Some is.last.arrived) is.carries)
+  stops_sending link now running n NoMemory few of is goes = begins_begun link running is
+  stops_sending link now running n (Bad line cause) few of is goes = absurd of
+  stops_sending link now running n (Limit line what number) few of is goes = absurd of
+  stops_sending link now running n (BadEvent line cause) few of is goes = absurd of
+  stops_sending link now running n WriteFault few of is goes = absurd of
+  stops_sending link now running n (Strange to frame) few of is goes = absurd of
 
   -- nothing arrives: the round is over
   rested : (link mid now : Traffic) (old new : Running) (is : IsBegun schedule marks from link old)
@@ -152,17 +159,19 @@ module _ (schedule : Schedule) (marks : List Mark) (from : Traffic) where
   -- one of the messages arrives: its delivery is the next event
   brought : (link mid now : Traffic) (old new : Running) (frame : Sent) (number : ℕ) (is : IsBegun schedule marks from link old)
       → Carries from mid (carried old.cloud.store.sent) (answers_of is.before ++ map Some is.last.arrived) → Answered mid now (Some frame) → first_same (carried old.cloud.store.sent) frame ≡ number
-      → new.cloud ≡ old.cloud → new.script ≡ old.script → new.mail.sent ≡ length old.cloud.store.sent → IsNext schedule marks from now new (Deliver number)
-  brought link mid now old new frame number is carries answered first cloud script all =
+      → number < length (carried old.cloud.store.sent) → new.cloud ≡ old.cloud → new.script ≡ old.script → new.mail.sent ≡ length old.cloud.store.sent → IsNext schedule marks from now new (Deliver number)
+  brought link mid now old new frame number is carries answered first within cloud script all =
       let given : List (Option Sent) = answers_of is.before ++ map Some is.last.arrived in
       let done : List Event = loop_events schedule.header (is.before ++ is.last ∷ []) in
       let frames : carried old.cloud.store.sent ≡ carried new.cloud.store.sent = ap (λ (c : Seen). carried c.store.sent) (sym cloud) in
+      let all_of : length (carried old.cloud.store.sent) ≡ length new.cloud.store.sent = many old.cloud.store.sent ∙ ap (λ (c : Seen). length c.store.sent) (sym cloud) in
       record {
         before = is.before;
         last = with_frame is.last frame;
         done = done;
         events_are = events_brought schedule.header is.before is.last frame
             ∙ delivery_is schedule.header done frame number (ap (λ (r : Run). first_same (carried r.store.sent) frame) is.run.run_is ∙ first);
+        known = omega (arith, within, all_of);
         run = record { run_is = is.run.run_is ∙ ap (λ (c : Seen). let r : Run = record { store = c.store; marks = marks; taken = c.events; refused = None } in r) (sym cloud); count = is.run.count ∙ ap (λ (c : Seen). c.events) (sym cloud) };
         front = record {
           script = ap (λ (es : List Event). es ++ new.script.events) (script_same is.before is.last frame) ∙ ap (λ (s : Left). script_of (is.before ++ is.last ∷ []) ++ s.events) script ∙ is.front.script;
@@ -182,50 +191,53 @@ module _ (schedule : Schedule) (marks : List Mark) (from : Traffic) where
       }
 
   -- a frame arrives that none of the messages is
-  meets_strange : (link mid now : Traffic) (old : Running) (frame : Sent) (is : IsBegun schedule marks from link old)
+  meets_strange : (link mid now : Traffic) (old : Running) (frame : Sent) → old.cloud.events ≤ event_limit → (is : IsBegun schedule marks from link old)
       → Carries from mid (carried old.cloud.store.sent) (answers_of is.before ++ map Some is.last.arrived) → Answered mid now (Some frame)
       → first_same (carried old.cloud.store.sent) frame ≡ length (carried old.cloud.store.sent) → IsStrange schedule marks from now frame
-  meets_strange link mid now old frame is carries answered none =
+  meets_strange link mid now old frame few is carries answered none =
       let given : List (Option Sent) = answers_of is.before ++ map Some is.last.arrived in
       let frames : carried (looped schedule (is.before ++ is.last ∷ [])).store.sent ≡ carried old.cloud.store.sent = ap (λ (r : Run). carried r.store.sent) is.run.run_is in
       record {
         rounds = is.before ++ is.last ∷ [];
+        few = omega (arith, few, is.run.count);
         unrefused = ap (λ (r : Run). r.refused) is.run.run_is;
         marks_are = ap (λ (r : Run). r.marks) is.run.run_is;
         strange = λ among. not_sent (carried old.cloud.store.sent) frame none (subst (λ (fs : List Sent). Contains fs frame) frames among);
         honestly = subst (λ (h : Option Bool). IsHonest h now.sent (Some frame)) (sym answered.honest) (subst (λ (s : Option (List Sent)). IsHonest mid.honest s (Some frame)) (sym answered.sent) answered.honestly);
+        unfaithful = λ fresh.
+            among_them (carried old.cloud.store.sent) (length (arrived given)) frame none (due from mid (carried old.cloud.store.sent) given (Some frame) fresh carries answered.faithfully);
         among = among link now old is (carried (looped schedule (is.before ++ is.last ∷ [])).store.sent) (Some frame ∷ [])
             (carries_as from now (carried old.cloud.store.sent) (carried (looped schedule (is.before ++ is.last ∷ [])).store.sent) (given ++ Some frame ∷ []) (given ++ Some frame ∷ []) (sym frames) refl
             (carries_one from mid now (carried old.cloud.store.sent) given (Some frame) carries answered));
       }
 
-  arrives_by : (link mid now : Traffic) (old new : Running) (result : Result (Option ℕ) LoopFault) (is : IsBegun schedule marks from link old)
+  arrives_by : (link mid now : Traffic) (old new : Running) (result : Result (Option ℕ) LoopFault) → old.cloud.events ≤ event_limit → (is : IsBegun schedule marks from link old)
       → Carries from mid (carried old.cloud.store.sent) (answers_of is.before ++ map Some is.last.arrived) → Comes (carried old.cloud.store.sent) mid now result
       → new.cloud ≡ old.cloud → new.script ≡ old.script → new.mail.sent ≡ length old.cloud.store.sent → Arrives schedule marks from now new result
-  arrives_by link mid now old new (Ok None) is carries comes cloud script all = rested link mid now old new is carries comes cloud script all
-  arrives_by link mid now old new (Ok (Some number)) is carries comes cloud script all = brought link mid now old new comes.frame number is carries comes.answered comes.first cloud script all
-  arrives_by link mid now old new (Err LinkFault) is carries comes cloud script all =
+  arrives_by link mid now old new (Ok None) few is carries comes cloud script all = rested link mid now old new is carries comes cloud script all
+  arrives_by link mid now old new (Ok (Some number)) few is carries comes cloud script all = brought link mid now old new comes.frame number is carries comes.answered comes.first comes.sent cloud script all
+  arrives_by link mid now old new (Err LinkFault) few is carries comes cloud script all =
       let whole : take (length (carried old.cloud.store.sent)) (carried old.cloud.store.sent) ≡ carried old.cloud.store.sent = take_all (length (carried old.cloud.store.sent)) (carried old.cloud.store.sent) (omega arith) in
       let given : List (Option Sent) = answers_of is.before ++ map Some is.last.arrived in
-      under_way link now old (length (carried old.cloud.store.sent)) is
+      under_way link now old (length (carried old.cloud.store.sent)) few is
       (subst (λ (t : Traffic). Carries from t (take (length (carried old.cloud.store.sent)) (carried old.cloud.store.sent)) given) (sym comes)
       (carries_as from mid (carried old.cloud.store.sent) (take (length (carried old.cloud.store.sent)) (carried old.cloud.store.sent)) given given (sym whole) refl carries))
-  arrives_by link mid now old new (Err (Strange to frame)) is carries (answered, none) cloud script all = meets_strange link mid now old (record { to = to; frame = frame }) is carries answered none
-  arrives_by link mid now old new (Err NoMemory) is carries comes cloud script all = begins_begun link old is
-  arrives_by link mid now old new (Err (Bad line cause)) is carries comes cloud script all = absurd comes
-  arrives_by link mid now old new (Err (Limit line what number)) is carries comes cloud script all = absurd comes
-  arrives_by link mid now old new (Err (BadEvent line cause)) is carries comes cloud script all = absurd comes
-  arrives_by link mid now old new (Err WriteFault) is carries comes cloud script all = absurd comes
+  arrives_by link mid now old new (Err (Strange to frame)) few is carries (answered, none) cloud script all = meets_strange link mid now old (record { to = to; frame = frame }) few is carries answered none
+  arrives_by link mid now old new (Err NoMemory) few is carries comes cloud script all = begins_begun link old is
+  arrives_by link mid now old new (Err (Bad line cause)) few is carries comes cloud script all = absurd comes
+  arrives_by link mid now old new (Err (Limit line what number)) few is carries comes cloud script all = absurd comes
+  arrives_by link mid now old new (Err (BadEvent line cause)) few is carries comes cloud script all = absurd comes
+  arrives_by link mid now old new (Err WriteFault) few is carries comes cloud script all = absurd comes
 
   -- what arrives once the link was given all
-  pub arrives : (link mid now : Traffic) (old new : Running) (n : ℕ) (result : Result (Option ℕ) LoopFault) → IsBegun schedule marks from link old
+  pub arrives : (link mid now : Traffic) (old new : Running) (n : ℕ) (result : Result (Option ℕ) LoopFault) → old.cloud.events ≤ event_limit → IsBegun schedule marks from link old
       → Goes link mid (take old.mail.sent (carried old.cloud.store.sent)) (take n (carried old.cloud.store.sent)) → n ≡ length old.cloud.store.sent
       → Comes (carried old.cloud.store.sent) mid now result
       → new.cloud ≡ old.cloud → new.script ≡ old.script → new.mail.sent ≡ n → Arrives schedule marks from now new result
-  arrives link mid now old new n result is goes all comes cloud script sent =
+  arrives link mid now old new n result few is goes all comes cloud script sent =
       let given : List (Option Sent) = answers_of is.before ++ map Some is.last.arrived in
       let whole : take n (carried old.cloud.store.sent) ≡ carried old.cloud.store.sent = take_all n (carried old.cloud.store.sent) (omega (arith, all, many old.cloud.store.sent)) in
-      arrives_by link mid now old new result is
+      arrives_by link mid now old new result few is
       (carries_as from mid (take n (carried old.cloud.store.sent)) (carried old.cloud.store.sent) given given whole refl (goes.on from given is.carries))
       comes cloud script (sent ∙ all)
 

@@ -6,7 +6,9 @@ pub mod Looping
 pub mod InOrder
 pub mod Turning
 pub mod Arriving
+pub mod Undelivered
 pub mod Scripting
 pub mod Ordered
 pub mod Registers
+pub mod Whole
 pub mod Telling

@@ -22,7 +22,7 @@ use Rattle.span_node.specs.Traffic.{Traffic, IsFresh}
 use Rattle.span_node.specs.Carried.{carried}
 use Rattle.span_node.specs.Rounds.{Round, with_delivery, with_round, loop_events, script_of}
 use Rattle.span_node.specs.InOrder.{Turn, turned_by, turned, in_order, AreInOrder}
-use Rattle.span_node.specs.Loops.{looped, LoopEnds, RunsInOrder}
+use Rattle.span_node.specs.Loops.{looped, IsStrange, LoopEnds, RunsInOrder}
 
 -- ---- each event may happen
 
@@ -60,12 +60,16 @@ may_run_looped schedule rounds left events more is script front =
 
 -- ---- honest links
 
+pub honest_known : (schedule : Schedule) (marks : List Mark) (from now : Traffic) (one : Sent) → from.honest ≡ Some true → from.sent ≡ Some [] → IsStrange schedule marks from now one → ⊥
+honest_known schedule marks from now one honest sent is =
+    let frames : List Sent = carried (looped schedule is.rounds).store.sent in
+    let told : now.sent ≡ Some frames = is.among.carries.sent ∙ ap (option_map (λ (b : List Sent). b ++ frames)) sent in
+    is.strange (is.honestly frames one (is.among.carries.honest ∙ honest) told refl)
+
 pub never_strange : (text : List ℕ) (old new : Option (List ℕ)) (from now : Traffic) (to : ℕ) (frame : List ℕ) → from.honest ≡ Some true → from.sent ≡ Some []
     → LoopEnds text old new from now (Err (Strange to frame)) → ⊥
 never_strange text old new from now to frame honest sent (schedule, read, marks, taken, keeps, is) =
-    let frames : List Sent = carried (looped schedule is.rounds).store.sent in
-    let told : now.sent ≡ Some frames = is.among.carries.sent ∙ ap (option_map (λ (b : List Sent). b ++ frames)) sent in
-    is.strange (is.honestly frames (record { to = to; frame = frame }) (is.among.carries.honest ∙ honest) told refl)
+    honest_known schedule marks from now (record { to = to; frame = frame }) honest sent is
 
 -- ---- faithful links
 
@@ -88,14 +92,14 @@ runs_in_order text old new from now messages fresh (schedule, read, marks, taken
     }
 
 -- a loop that is at its end stays there
-stays : (header : Header) (script : List Event) (turn : Turn) (n k : ℕ) → in_order header script n ≡ turn → turned header turn ≡ turn → in_order header script (n + k) ≡ turn
+pub stays : (header : Header) (script : List Event) (turn : Turn) (n k : ℕ) → in_order header script n ≡ turn → turned header turn ≡ turn → in_order header script (n + k) ≡ turn
 unfolding in_order
 stays header script turn n zero is end = let same : n + 0 ≡ n = omega arith in ap (in_order header script) same ∙ is
 stays header script turn n (suc k) is end =
     let next : n + suc k ≡ suc (n + k) = omega arith in
     ap (in_order header script) next ∙ ap (turned header) (stays header script turn n k is end) ∙ end
 
-at_end : (header : Header) (script events : List Event) (is : AreInOrder header script events) → turned header (record { events = events; come = is.come; left = [] }) ≡ record { events = events; come = is.come; left = [] }
+pub at_end : (header : Header) (script events : List Event) (is : AreInOrder header script events) → turned header (record { events = events; come = is.come; left = [] }) ≡ record { events = events; come = is.come; left = [] }
 unfolding turned
 at_end header script events is = ap (turned_by header (record { events = events; come = is.come; left = [] })) is.none_due
 

@@ -9,6 +9,7 @@ use Rattle.wire_msg.specs.declared.outputs.Post.{Post}
 use Rattle.run_marks.specs.declared.mark.Mark.{Mark}
 use Rattle.world_core.specs.declared.event.Header.{Header}
 use Rattle.world_core.specs.declared.event.Event.{Event}
+use Rattle.world_core.specs.declared.event.Event.TheVariants.{Start, Deliver, StopReplica, StopProxy, GiveUp, Publish}
 use Rattle.world_core.specs.State.{Store, opening}
 use Rattle.world_core.specs.Ends.{Seen}
 use Rattle.world_core.specs.Run.{Run, run, run_of, nothing_ran, MayHappen}
@@ -24,7 +25,7 @@ use Rattle.span_node.specs.declared.mail.Mail.{Mail}
 use Rattle.span_node.specs.declared.running.Running.{Running}
 use Rattle.span_node.specs.Traffic.{Traffic}
 use Rattle.span_node.specs.Carried.{carried}
-use Rattle.span_node.specs.Rounds.{loop_events, answers_of, script_of}
+use Rattle.span_node.specs.Rounds.{loop_events, answers_of, script_of, DeliversNothing, IsKnown}
 use Rattle.span_node.specs.InOrder.{IsInStep, IsDone}
 use Rattle.span_node.specs.Loops.{looped, IsOver}
 use Rattle.span_node.specs.Mail.{IsMail}
@@ -32,13 +33,23 @@ use Rattle.span_node.specs.Standing.{IsReady, IsResting, IsNext, StandsBy, Stops
 use Rattle.span_node.proofs.Looping.{opened, events_begun, script_more, count_more}
 use Rattle.span_node.proofs.InOrder.{step_event, step_end, step_first}
 use Rattle.span_node.proofs.Turning.{carries_as}
+use Rattle.span_node.proofs.Undelivered.{scripts_deliver_nothing}
 
 -- ---- the next event
 
+-- an event that delivers nothing delivers nothing unknown
+known_always : (event : Event) (sent : ℕ) → DeliversNothing event → IsKnown event sent
+known_always (Start proxy key work) sent none = tt
+known_always (Deliver message) sent none = absurd none
+known_always (StopReplica number) sent none = tt
+known_always (StopProxy number) sent none = tt
+known_always (GiveUp proxy seq) sent none = tt
+known_always (Publish table) sent none = tt
+
 -- the script's next event begins a round
-pub begins_round : (schedule : Schedule) (marks : List Mark) (from now : Traffic) (old new : Running) (event : Event) → IsResting schedule marks from now old
+pub begins_round : (schedule : Schedule) (marks : List Mark) (from now : Traffic) (old new : Running) (event : Event) → IsReady old → IsResting schedule marks from now old
     → old.script.events ≡ event ∷ new.script.events → new.script.line ≡ old.script.line + 1 → new.cloud ≡ old.cloud → new.mail ≡ old.mail → IsNext schedule marks from now new event
-begins_round schedule marks from now old new event is left line cloud mail =
+begins_round schedule marks from now old new event ready is left line cloud mail =
     let sent : carried old.cloud.store.sent ≡ carried new.cloud.store.sent = ap (λ (c : Seen). carried c.store.sent) (sym cloud) in
     let was = is.front.line in
     let one : length (is.rounds ++ opened event ∷ []) ≡ length is.rounds + 1 = count_more is.rounds (opened event) in
@@ -47,6 +58,7 @@ begins_round schedule marks from now old new event is left line cloud mail =
       last = opened event;
       done = loop_events schedule.header is.rounds;
       events_are = events_begun schedule.header is.rounds event;
+      known = known_always event (length new.cloud.store.sent) (All-head DeliversNothing event new.script.events (subst (All DeliversNothing) left ready.undelivered));
       run = record { run_is = is.run.run_is ∙ ap (λ (c : Seen). let r : Run = record { store = c.store; marks = marks; taken = c.events; refused = None } in r) (sym cloud); count = is.run.count ∙ ap (λ (c : Seen). c.events) (sym cloud) };
       front = record {
         script = ap (λ (es : List Event). es ++ new.script.events) (script_more is.rounds (opened event)) ∙ append_assoc (script_of is.rounds) (event ∷ []) new.script.events
@@ -91,6 +103,7 @@ ready_past old new event ready left cloud mail = record {
   header = ready.header;
   few = omega (arith, ap (λ (c : Seen). c.events) cloud, ready.few);
   may = All-tail (MayAlways ready.header) event new.script.events (subst (All (MayAlways ready.header)) left ready.may);
+  undelivered = All-tail DeliversNothing event new.script.events (subst (All DeliversNothing) left ready.undelivered);
   modes = subst (λ (c : Seen). HasModes ready.header c.store.directory) (sym cloud) ready.modes;
   mail = subst (λ (c : Seen). IsMail new.mail c.store.sent) (sym cloud) (subst (λ (m : Mail). IsMail m old.cloud.store.sent) (sym mail) ready.mail);
 }
@@ -166,6 +179,7 @@ opens_ready running header events may text read is =
       header = header;
       few = omega (arith, is.none_taken);
       may = subst (All (MayAlways header)) (sym left) (may Script text schedule read).events;
+      undelivered = subst (All DeliversNothing) (sym left) (scripts_deliver_nothing text schedule read);
       modes = subst (λ (s : Store). HasModes header s.directory) (sym is.store_is) (opens_modes header);
       mail = subst (IsMail running.mail) (sym none) is.mail;
     }

@@ -32,7 +32,7 @@ use Rattle.span_node.specs.declared.running.Running.{Running}
 use Rattle.span_node.specs.Faults.{of_replay}
 use Rattle.span_node.specs.Traffic.{Traffic, Carries}
 use Rattle.span_node.specs.Carried.{posted, carried}
-use Rattle.span_node.specs.Rounds.{Round, loop_events, answers_of, so_far}
+use Rattle.span_node.specs.Rounds.{Round, loop_events, answers_of, DeliversNothing, IsKnown, so_far}
 use Rattle.span_node.specs.InOrder.{IsInStep}
 use Rattle.span_node.specs.Loops.{event_limit, looped, last_line, IsIn, IsRefused, IsFull}
 use Rattle.span_node.specs.declared.mail.Mail.{Mail}
@@ -105,6 +105,7 @@ ready_next old new event more ready few happens script mail =
       header = ready.header;
       few = omega (arith, few, one);
       may = subst (λ (s : Left). All (MayAlways ready.header) s.events) (sym script) ready.may;
+      undelivered = subst (λ (s : Left). All DeliversNothing s.events) (sym script) ready.undelivered;
       modes = subst (λ (s : Store). HasModes ready.header s.directory) (sym happens.store_is) (keeps_modes ready.header old.cloud.store event h happens.taken ready.modes);
       mail = subst (IsMail new.mail) (sym sent) (subst (λ (m : Mail). IsMail m (old.cloud.store.sent ++ h.posts)) (sym mail) (mail_stays old.mail old.cloud.store.sent h.posts ready.mail));
     }
@@ -121,16 +122,28 @@ among schedule marks from now running event is sent same =
       given = given;
       open_round = answers_closed is.before is.last;
       carries = carries_as from now (carried running.cloud.store.sent) (carried sent) given (given ++ []) (ap carried (sym same)) (sym (append-nil given)) is.carries;
+      in_step = is.in_step;
     }
 
-refused_next : (schedule : Schedule) (marks : List Mark) (from now : Traffic) (running : Running) (event : Event) (fault : StepFault) → IsNext schedule marks from now running event
+-- the event delivers none but one of the messages of the run so far
+known_next : (schedule : Schedule) (marks : List Mark) (from now : Traffic) (running : Running) (event : Event) (is : IsNext schedule marks from now running event) → IsKnown event (length (run_of schedule.header is.done).store.sent)
+known_next schedule marks from now running event is = subst (λ (r : Run). IsKnown event (length r.store.sent)) (sym is.run.run_is) is.known
+
+refused_next : (schedule : Schedule) (marks : List Mark) (from now : Traffic) (running : Running) (event : Event) (fault : StepFault) → running.cloud.events < event_limit → IsNext schedule marks from now running event
     → world.step running.cloud.store event ≡ Err fault → IsRefused schedule marks from now (refused_at running.script.line fault)
-refused_next schedule marks from now running event fault is refuses =
+refused_next schedule marks from now running event fault low is refuses =
     let rounds : List Round = is.before ++ is.last ∷ [] in
     let whole : looped schedule rounds ≡ record { store = running.cloud.store; marks = marks; taken = running.cloud.events; refused = Some fault } =
     ran_into schedule.header is.done (loop_events schedule.header rounds) event running.cloud marks fault is.events_are is.run.run_is refuses in
+    let one : length (loop_events schedule.header rounds) ≡ length is.done + 1 = ap length is.events_are ∙ length-append is.done (event ∷ []) in
     record {
       rounds = rounds;
+      done = is.done;
+      last = event;
+      events_are = is.events_are;
+      few = omega (arith, low, is.run.count, one);
+      unrefused = ap (λ (r : Run). r.refused) is.run.run_is;
+      known = known_next schedule marks from now running event is;
       fault = fault;
       refused = ap (λ (r : Run). r.refused) whole;
       marks_are = ap (λ (r : Run). r.marks) whole;
@@ -148,6 +161,7 @@ full_next schedule marks from now running event is full = record {
   events_are = is.events_are;
   full = is.run.count ∙ full;
   unrefused = ap (λ (r : Run). r.refused) is.run.run_is;
+  known = known_next schedule marks from now running event is;
   marks_are = ap (λ (r : Run). r.marks) is.run.run_is;
   told_is = ap (λ (l : ℕ). let f : ReplayFault = replay.Limit l Events 1000001 in f) is.front.line;
   among = among schedule marks from now running event is (run_of schedule.header is.done).store.sent (ap (λ (r : Run). r.store.sent) is.run.run_is);
@@ -199,16 +213,16 @@ stops_told schedule marks from now replay.WriteFault is = absurd (never_unwritte
 stops_told schedule marks from now replay.NoMemory is = record { rounds = is.rounds; left = is.among.left; script = is.among.script; more = []; marks_are = is.marks_are ∙ sym (append-nil marks) }
 
 -- the next event isn't taken
-pub not_taken : (schedule : Schedule) (marks : List Mark) (from now : Traffic) (running : Running) (event : Event) (after : Seen) (fault : StepFault) → IsNext schedule marks from now running event
+pub not_taken : (schedule : Schedule) (marks : List Mark) (from now : Traffic) (running : Running) (event : Event) (after : Seen) (fault : StepFault) → running.cloud.events < event_limit → IsNext schedule marks from now running event
     → EndsInMemory running.cloud after (world.step running.cloud.store event) (Err fault) → Stops schedule marks from now (of_replay (refused_at running.script.line fault))
-not_taken schedule marks from now running event after step.NoActor is ends = stops_told schedule marks from now (refused_at running.script.line step.NoActor) (refused_next schedule marks from now running event step.NoActor is ends.0)
-not_taken schedule marks from now running event after step.NoKey is ends = stops_told schedule marks from now (refused_at running.script.line step.NoKey) (refused_next schedule marks from now running event step.NoKey is ends.0)
-not_taken schedule marks from now running event after step.WrongMode is ends = stops_told schedule marks from now (refused_at running.script.line step.WrongMode) (refused_next schedule marks from now running event step.WrongMode is ends.0)
-not_taken schedule marks from now running event after (step.NoMessage sent) is ends = stops_told schedule marks from now (refused_at running.script.line (step.NoMessage sent)) (refused_next schedule marks from now running event (step.NoMessage sent) is ends.0)
-not_taken schedule marks from now running event after step.NoCall is ends = stops_told schedule marks from now (refused_at running.script.line step.NoCall) (refused_next schedule marks from now running event step.NoCall is ends.0)
-not_taken schedule marks from now running event after (step.Limit what number) is ends = stops_told schedule marks from now (refused_at running.script.line (step.Limit what number)) (refused_next schedule marks from now running event (step.Limit what number) is ends.0)
-not_taken schedule marks from now running event after (step.Taker fault) is ends = absurd ends
-not_taken schedule marks from now running event after (step.NoMemory error) is ends = begins_next schedule marks from now running event is
+not_taken schedule marks from now running event after step.NoActor low is ends = stops_told schedule marks from now (refused_at running.script.line step.NoActor) (refused_next schedule marks from now running event step.NoActor low is ends.0)
+not_taken schedule marks from now running event after step.NoKey low is ends = stops_told schedule marks from now (refused_at running.script.line step.NoKey) (refused_next schedule marks from now running event step.NoKey low is ends.0)
+not_taken schedule marks from now running event after step.WrongMode low is ends = stops_told schedule marks from now (refused_at running.script.line step.WrongMode) (refused_next schedule marks from now running event step.WrongMode low is ends.0)
+not_taken schedule marks from now running event after (step.NoMessage sent) low is ends = stops_told schedule marks from now (refused_at running.script.line (step.NoMessage sent)) (refused_next schedule marks from now running event (step.NoMessage sent) low is ends.0)
+not_taken schedule marks from now running event after step.NoCall low is ends = stops_told schedule marks from now (refused_at running.script.line step.NoCall) (refused_next schedule marks from now running event step.NoCall low is ends.0)
+not_taken schedule marks from now running event after (step.Limit what number) low is ends = stops_told schedule marks from now (refused_at running.script.line (step.Limit what number)) (refused_next schedule marks from now running event (step.Limit what number) low is ends.0)
+not_taken schedule marks from now running event after (step.Taker fault) low is ends = absurd ends
+not_taken schedule marks from now running event after (step.NoMemory error) low is ends = begins_next schedule marks from now running event is
 
 -- ---- how the take of the next event is told
 
@@ -220,8 +234,8 @@ stops_full schedule marks from now running event line told is at low high next =
     (inr (subst (λ (l : ℕ). IsFull schedule marks from now (replay.Limit l Events 1000001)) (sym at) (full_next schedule marks from now running event next full)))
 
 pub stops_not_taken : (schedule : Schedule) (marks : List Mark) (from now : Traffic) (running : Running) (event : Event) (after : Seen) (fault : StepFault) (line : ℕ) (told : LoopFault)
-    → told ≡ of_replay (refused_at line fault) → line ≡ running.script.line → EndsInMemory running.cloud after (world.step running.cloud.store event) (Err fault)
+    → told ≡ of_replay (refused_at line fault) → line ≡ running.script.line → running.cloud.events < event_limit → EndsInMemory running.cloud after (world.step running.cloud.store event) (Err fault)
     → IsNext schedule marks from now running event → Stops schedule marks from now told
-stops_not_taken schedule marks from now running event after fault line told is at ends next =
+stops_not_taken schedule marks from now running event after fault line told is at low ends next =
     subst (Stops schedule marks from now) (sym is)
-    (subst (λ (l : ℕ). Stops schedule marks from now (of_replay (refused_at l fault))) (sym at) (not_taken schedule marks from now running event after fault next ends))
+    (subst (λ (l : ℕ). Stops schedule marks from now (of_replay (refused_at l fault))) (sym at) (not_taken schedule marks from now running event after fault low next ends))

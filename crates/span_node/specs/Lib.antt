@@ -7,3 +7,4 @@ pub mod Mail
 pub mod Rounds
 pub mod Standing
 pub mod Traffic
+pub mod WholeLoops

@@ -22,8 +22,8 @@ use Rattle.span_node.specs.declared.fault.LoopFault.{LoopFault}
 use Rattle.span_node.specs.declared.fault.LoopFault.TheVariants.{Bad, Limit, BadEvent, WriteFault, LinkFault, Strange, NoMemory}
 use Rattle.span_node.specs.Traffic.{Traffic, Carries, IsFresh}
 use Rattle.span_node.specs.Carried.{carried}
-use Rattle.span_node.specs.Rounds.{Round, loop_events, answers_of, script_of}
-use Rattle.span_node.specs.InOrder.{AreInOrder}
+use Rattle.span_node.specs.Rounds.{Round, loop_events, answers_of, script_of, IsKnown}
+use Rattle.span_node.specs.InOrder.{AreInOrder, IsInStep}
 
 -- the greatest number of events, deliveries among them
 abbrev pub event_limit : ℕ
@@ -38,13 +38,15 @@ abbrev pub last_line : Schedule → List Round → ℕ
 last_line schedule rounds = begin_line schedule.header + length rounds
 
 -- The rounds begin the script, and the last of them isn't over: the link gave all their answers but
--- the nothing at the end, and then these. It was given these frames.
+-- the nothing at the end, and then these. It was given these frames. Over a faithful link the rounds'
+-- events are the first of the script's loop in order.
 pub record IsIn (schedule : Schedule) (rounds : List Round) (from now : Traffic) (frames : List Sent) (more : List (Option Sent)) : Type 0 where
   pub left : List Event
   pub script : script_of rounds ++ left ≡ schedule.events
   pub given : List (Option Sent)
   pub open_round : given ++ None ∷ [] ≡ answers_of rounds
   pub carries : Carries from now frames (given ++ more)
+  pub in_step : IsFresh from → IsInStep schedule.header schedule.events (loop_events schedule.header rounds) given left
 
 -- the loop went to the end of the script: its run has these marks, each message was sent, and each round is over
 pub record IsOver (schedule : Schedule) (marks : List Mark) (from now : Traffic) (messages : ℕ) : Type 0 where
@@ -57,16 +59,22 @@ pub record IsOver (schedule : Schedule) (marks : List Mark) (from now : Traffic)
   pub carries : Carries from now (carried (looped schedule rounds).store.sent) (answers_of rounds)
   pub in_order : IsFresh from → AreInOrder schedule.header schedule.events (loop_events schedule.header rounds)
 
--- the run refused the last event of the rounds, of which this is told; each message was sent before
+-- the run refused the last event of the rounds, and none before it; of that this is told. Each message was sent before, and the event delivers none but one of these
 pub record IsRefused (schedule : Schedule) (marks : List Mark) (from now : Traffic) (told : ReplayFault) : Type 0 where
   pub rounds : List Round
+  pub done : List Event
+  pub last : Event
+  pub events_are : loop_events schedule.header rounds ≡ done ++ last ∷ []
+  pub few : length (loop_events schedule.header rounds) ≤ event_limit
+  pub unrefused : (run_of schedule.header done).refused ≡ None
+  pub known : IsKnown last (length (run_of schedule.header done).store.sent)
   pub fault : StepFault
   pub refused : (looped schedule rounds).refused ≡ Some fault
   pub marks_are : (looped schedule rounds).marks ≡ marks
   pub told_is : told ≡ refused_at (last_line schedule rounds) fault
   pub among : IsIn schedule rounds from now (carried (looped schedule rounds).store.sent) []
 
--- the last event of the rounds would be one too many; each message was sent before
+-- the last event of the rounds would be one too many; each message was sent before, and the event delivers none but one of these
 pub record IsFull (schedule : Schedule) (marks : List Mark) (from now : Traffic) (told : ReplayFault) : Type 0 where
   pub rounds : List Round
   pub done : List Event
@@ -74,6 +82,7 @@ pub record IsFull (schedule : Schedule) (marks : List Mark) (from now : Traffic)
   pub events_are : loop_events schedule.header rounds ≡ done ++ last ∷ []
   pub full : length done ≡ event_limit
   pub unrefused : (run_of schedule.header done).refused ≡ None
+  pub known : IsKnown last (length (run_of schedule.header done).store.sent)
   pub marks_are : (run_of schedule.header done).marks ≡ marks
   pub told_is : told ≡ replay.Limit (last_line schedule rounds) Events 1000001
   pub among : IsIn schedule rounds from now (carried (run_of schedule.header done).store.sent) []
@@ -81,6 +90,7 @@ pub record IsFull (schedule : Schedule) (marks : List Mark) (from now : Traffic)
 -- the loop is in a round, with these marks so far; the link was given the first of the messages
 pub record IsUnderWay (schedule : Schedule) (marks : List Mark) (from now : Traffic) : Type 0 where
   pub rounds : List Round
+  pub few : length (loop_events schedule.header rounds) ≤ event_limit
   pub unrefused : (looped schedule rounds).refused ≡ None
   pub marks_are : (looped schedule rounds).marks ≡ marks
   pub frames : List Sent
@@ -88,13 +98,15 @@ pub record IsUnderWay (schedule : Schedule) (marks : List Mark) (from now : Traf
   pub frames_are : frames ++ unsent ≡ carried (looped schedule rounds).store.sent
   pub among : IsIn schedule rounds from now frames []
 
--- the loop is in a round, each message was sent, and a frame arrived that none of them is
+-- the loop is in a round, each message was sent, and a frame arrived that none of them is; over a faithful link that never is so
 pub record IsStrange (schedule : Schedule) (marks : List Mark) (from now : Traffic) (sent : Sent) : Type 0 where
   pub rounds : List Round
+  pub few : length (loop_events schedule.header rounds) ≤ event_limit
   pub unrefused : (looped schedule rounds).refused ≡ None
   pub marks_are : (looped schedule rounds).marks ≡ marks
   pub strange : Contains (carried (looped schedule rounds).store.sent) sent → ⊥
   pub honestly : IsHonest now.honest now.sent (Some sent)
+  pub unfaithful : IsFresh from → ⊥
   pub among : IsIn schedule rounds from now (carried (looped schedule rounds).store.sent) (Some sent ∷ [])
 
 -- the text is that of a script, of whose loop this holds with marks whose lines were taken, and this behind them; in them the history of each strong key is that of one register

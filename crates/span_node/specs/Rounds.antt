@@ -1,5 +1,5 @@
 -- The events of a loop over a link: those of a script, and behind each the deliveries of what arrives.
-use Rattle.std.specs.Prelude.{List, [], ◌∷◌, ◌++◌, map, Option, Some, None}
+use Rattle.std.specs.Prelude.{ℕ, ◌<◌, List, [], ◌∷◌, ◌++◌, map, Option, Some, None}
 use Rattle.std.specs.List.{flat_map, fold}
 use Rattle.run_marks.specs.declared.mark.Mark.{Mark}
 use Rattle.world_core.specs.declared.event.Header.{Header}
@@ -38,6 +38,16 @@ answers_of rounds = flat_map answers_in rounds
 -- the events of the script in the rounds
 unfoldable pub script_of : List Round → List Event
 script_of rounds = map (λ round. round.event) rounds
+
+-- the event delivers no message
+abbrev pub DeliversNothing : Event → Type 0
+DeliversNothing (Deliver message) = ⊥
+DeliversNothing _ = Unit {0}
+
+-- where the event delivers a message, that is one of so many
+abbrev pub IsKnown : Event → ℕ → Type 0
+IsKnown (Deliver message) sent = message < sent
+IsKnown _ sent = Unit {0}
 
 -- a run with no refusal so far, by its store
 abbrev pub so_far : Seen → List Mark → Run

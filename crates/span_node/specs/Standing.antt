@@ -19,16 +19,17 @@ use Rattle.span_node.specs.declared.fault.LoopFault.TheVariants.{Bad, Limit, Bad
 use Rattle.span_node.specs.declared.running.Running.{Running}
 use Rattle.span_node.specs.Traffic.{Traffic, Carries, IsFresh}
 use Rattle.span_node.specs.Carried.{carried}
-use Rattle.span_node.specs.Rounds.{Round, loop_events, answers_of, script_of, so_far}
+use Rattle.span_node.specs.Rounds.{Round, loop_events, answers_of, script_of, DeliversNothing, IsKnown, so_far}
 use Rattle.span_node.specs.InOrder.{IsInStep, IsDone}
 use Rattle.span_node.specs.Loops.{event_limit, looped, last_line, IsOver, IsRefused, IsFull, IsUnderWay, IsStrange}
 use Rattle.span_node.specs.Mail.{IsMail}
 
--- the script's events that are left may happen, and the mail is in order
+-- the script's events that are left may happen and deliver nothing, and the mail is in order
 pub record IsReady (running : Running) : Type 0 where
   pub header : Header
   pub few : running.cloud.events ≤ event_limit
   pub may : All (MayAlways header) running.script.events
+  pub undelivered : All DeliversNothing running.script.events
   pub modes : HasModes header running.cloud.store.directory
   pub mail : IsMail running.mail running.cloud.store.sent
 
@@ -60,12 +61,13 @@ pub record IsResting (schedule : Schedule) (marks : List Mark) (from now : Traff
   pub carries : Carries from now (carried running.cloud.store.sent) (answers_of rounds)
   pub in_step : IsFresh from → IsDone schedule.header schedule.events (loop_events schedule.header rounds) (answers_of rounds) running.script.events
 
--- this event is the next one of the last round; the link was given all messages
+-- this event is the next one of the last round; the link was given all messages, and the event delivers none but one of these
 pub record IsNext (schedule : Schedule) (marks : List Mark) (from now : Traffic) (running : Running) (event : Event) : Type 0 where
   pub before : List Round
   pub last : Round
   pub done : List Event
   pub events_are : loop_events schedule.header (before ++ last ∷ []) ≡ done ++ event ∷ []
+  pub known : IsKnown event (length running.cloud.store.sent)
   pub run : IsRun schedule done marks running.cloud
   pub front : IsFront schedule (before ++ last ∷ []) running
   pub all_sent : running.mail.sent ≡ length running.cloud.store.sent

@@ -1,17 +1,19 @@
 //! What is true of every loop.
 
-ghost use Rattle.std.specs.Prelude.{◌≡◌, ◌++◌, ℕ, List, [], Option, Some, true, Ok, Err};
+ghost use Rattle.std.specs.Prelude.{◌≡◌, ◌++◌, ℕ, List, [], Option, Some, true, Result, Ok, Err};
 ghost use Rattle.world_core.specs.declared.event.Header.{Header};
 ghost use Rattle.world_core.specs.declared.event.Event.{Event};
 ghost use Rattle.world_core.specs.State.{opening};
 ghost use Rattle.world_core.specs.Run.{IsHeader, MayRun};
 ghost use Rattle.schedule_text.specs.declared.setting.Form.TheVariants.{Script};
 ghost use Rattle.schedule_text.specs.Schedules.{Schedule, schedule_of};
+ghost use Rattle.span_node.specs.declared.fault.LoopFault.{LoopFault};
 ghost use Rattle.span_node.specs.declared.fault.LoopFault.TheVariants.{Strange};
 ghost use Rattle.span_node.specs.Traffic.{Traffic, IsFresh};
 ghost use Rattle.span_node.specs.Rounds.{Round, loop_events, script_of};
 ghost use Rattle.span_node.specs.InOrder.{AreInOrder};
 ghost use Rattle.span_node.specs.Loops.{LoopEnds, RunsInOrder};
+ghost use Rattle.span_node.specs.WholeLoops.{IsTakenInOrder, IsTakenAsAnswered, IsOverOrFailed};
 
 use schedule_text::laws::schedules_may_happen;
 
@@ -38,4 +40,13 @@ pub fn honest_links_bring_nothing_strange()
 pub fn faithful_links_run_in_order()
     ensures runs { (text : List ℕ) (old new : Option (List ℕ)) (from now : Traffic) (messages : ℕ) → IsFresh from → LoopEnds text old new from now (Ok messages) → RunsInOrder text old new now messages }
     ensures one { (header : Header) (script events others : List Event) → AreInOrder header script events → AreInOrder header script others → events ≡ others }
+{}
+
+/// Over a link on which nothing was sent before, a script goes to its end but for want of memory, or
+/// a sink or a link that failed: over a faithful link where no event of its loop in order is
+/// refused, and over an honest one where none is of those that its answers make, and where these
+/// events are no more than a loop may have.
+pub fn whole_scripts_are_run()
+    ensures faithful { (text : List ℕ) (schedule : Schedule) (old new : Option (List ℕ)) (from now : Traffic) (result : Result ℕ LoopFault) → schedule_of Script text ≡ Ok schedule → IsTakenInOrder schedule → IsFresh from → LoopEnds text old new from now result → IsOverOrFailed result }
+    ensures honest { (text : List ℕ) (schedule : Schedule) (old new : Option (List ℕ)) (from now : Traffic) (result : Result ℕ LoopFault) → schedule_of Script text ≡ Ok schedule → IsTakenAsAnswered schedule from now → from.honest ≡ Some true → from.sent ≡ Some [] → LoopEnds text old new from now result → IsOverOrFailed result }
 {}

@@ -13,7 +13,7 @@ returns-in_err-send_all-clause-arrives g c =
     let goes = rw c.wire.ensures at c.in_err-send_all.ensures.goes in
     λ schedule marks from stands.
     arrives_told schedule marks from now new c.from_residual.result c.in_err-send_all.field-0.0 c.from_residual.ensures.1
-    (stops_sending schedule marks from link now c.args.self.now c.send_all.new.self.sent c.in_err-send_all.field-0.0 c.in_err-send_all.ensures.of_link
+    (stops_sending schedule marks from link now c.args.self.now c.send_all.new.self.sent c.in_err-send_all.field-0.0 c.requires.ready.few c.in_err-send_all.ensures.of_link
     (begun_by schedule marks from link c.args.self.now begun stands) goes)
 
 pub returns-clause-arrives : goal.returns-clause-arrives
@@ -27,4 +27,4 @@ returns-clause-arrives g c =
     let all : c.send_all.new.self.sent ≡ length c.args.self.now.cloud.store.sent = c.in_ok-send_all.ensures.all ∙ ap length c.wire.ensures in
     let comes = rw c.wire-2.ensures at c.next.ensures.comes in
     λ schedule marks from stands.
-    arrives schedule marks from link mid now c.args.self.now new c.send_all.new.self.sent c.next.result (begun_by schedule marks from link c.args.self.now begun stands) goes all comes refl refl c.next.ensures.sent
+    arrives schedule marks from link mid now c.args.self.now new c.send_all.new.self.sent c.next.result c.requires.ready.few (begun_by schedule marks from link c.args.self.now begun stands) goes all comes refl refl c.next.ensures.sent

@@ -21,11 +21,11 @@ returns-in_err-marks-clause-goes c =
     let mid : Running = record { cloud = c.args.self.now.cloud; script = c.next.new.self; mail = c.args.self.now.mail; begun = c.args.self.now.begun } in
     λ schedule marks from now is.
     goes_told schedule marks from now c.take.new.self c.from_residual-in_err-marks.result c.in_err-marks.field-0.0 c.from_residual-in_err-marks.ensures.1
-    (c.in_err-marks.ensures.takes schedule marks from now (begins_round schedule marks from now c.args.self.now mid c.in-Some.event is gives.0 gives.1 refl refl))
+    (c.in_err-marks.ensures.takes schedule marks from now (begins_round schedule marks from now c.args.self.now mid c.in-Some.event c.requires.ready is gives.0 gives.1 refl refl))
 
 pub returns-clause-goes : goal.returns-clause-goes
 returns-clause-goes c =
     let gives = rw c.in-Some.is at c.in_ok-event.ensures in
     let mid : Running = record { cloud = c.args.self.now.cloud; script = c.next.new.self; mail = c.args.self.now.mail; begun = c.args.self.now.begun } in
     λ schedule marks from now is.
-    c.in_ok-marks.ensures.takes schedule marks from now (begins_round schedule marks from now c.args.self.now mid c.in-Some.event is gives.0 gives.1 refl refl)
+    c.in_ok-marks.ensures.takes schedule marks from now (begins_round schedule marks from now c.args.self.now mid c.in-Some.event c.requires.ready is gives.0 gives.1 refl refl)

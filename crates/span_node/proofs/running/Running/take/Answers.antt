@@ -26,6 +26,9 @@ returns-in-Ok-clause-ready c =
 
 pub returns-in-Err-clause-takes : goal.returns-in-Err-clause-takes
 returns-in-Err-clause-takes c =
+    let below = c.if-events-ge-EVENT_LIMIT.false in
+    let count = c.events.ensures in
+    let few : c.args.self.now.cloud.events < 1000000 = omega (arith, below, count) in
     λ schedule marks from now is.
     stops_not_taken schedule marks from now c.args.self.now c.args.event.now c.step_in_memory.new.self c.in-Err.fault c.line-in-Err.result c.into.result
-    (c.into.ensures ∙ ap of_replay c.refused_at.ensures) c.line-in-Err.ensures c.in-Err.ensures is
+    (c.into.ensures ∙ ap of_replay c.refused_at.ensures) c.line-in-Err.ensures few c.in-Err.ensures is
