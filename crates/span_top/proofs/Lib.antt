@@ -8,4 +8,5 @@ pub mod Replaying
 pub mod Checking
 pub mod ReplayLaws
 pub mod Looping
+pub mod LoopLaws
 pub mod Accepting

@@ -35,13 +35,13 @@ use Rattle.span_top.specs.Spans.{Ends, SpanEnds, IsDoneOrFailed}
 use Rattle.span_top.specs.ReplayLaws.{WholeRunsAreReplayed, UnbrokenLogsAreAudited, WasReplayed, PassesAudit, ReplaysPassTheAudit}
 
 -- a file has one list of bytes
-one_file : (name : List ℕ) (files : Files) (a b : List ℕ) → file_of name files ≡ Some a → file_of name files ≡ Some b → a ≡ b
+pub one_file : (name : List ℕ) (files : Files) (a b : List ℕ) → file_of name files ≡ Some a → file_of name files ≡ Some b → a ≡ b
 one_file name files a b h k = let e : Some a ≡ Some b = sym h ∙ k in cc
 
-no_file : (name : List ℕ) (files : Files) (bytes : List ℕ) → file_of name files ≡ Some bytes → file_of name files ≡ None → ⊥
+pub no_file : (name : List ℕ) (files : Files) (bytes : List ℕ) → file_of name files ≡ Some bytes → file_of name files ≡ None → ⊥
 no_file name files bytes h k = let e : Some bytes ≡ None = sym h ∙ k in cc
 
-not_longer : (name : List ℕ) (files : Files) (bytes : List ℕ) (limit line : ℕ) (what : What) (number : ℕ) → file_of name files ≡ Some bytes → length bytes ≤ limit → IsBytesLimit (Some files) name limit line what number → ⊥
+pub not_longer : (name : List ℕ) (files : Files) (bytes : List ℕ) (limit line : ℕ) (what : What) (number : ℕ) → file_of name files ≡ Some bytes → length bytes ≤ limit → IsBytesLimit (Some files) name limit line what number → ⊥
 not_longer name files bytes limit line what number held within is =
     let same : is.longer.bytes ≡ bytes = one_file name files is.longer.bytes bytes is.longer.held held in
     let above : limit < length bytes = subst (λ (b : List ℕ). limit < length b) same is.longer.above in
@@ -88,7 +88,7 @@ module _ (name : List ℕ) (files : Files) (bytes : List ℕ) (schedule : Schedu
   replay_answers old new (status.Strange to frame) ends = absurd ends
 
 -- what the words ask for
-asked : (words : List (List ℕ)) (what : Asked) (files : Option Files) (old new : Option (List ℕ)) (from now : Traffic) (s : Status) → command_of words ≡ Some what → SpanEnds words files old new from now s → Ends (Some what) files old new from now s
+pub asked : (words : List (List ℕ)) (what : Asked) (files : Option Files) (old new : Option (List ℕ)) (from now : Traffic) (s : Status) → command_of words ≡ Some what → SpanEnds words files old new from now s → Ends (Some what) files old new from now s
 asked words what files old new from now s is ends = subst (λ (o : Option Asked). Ends o files old new from now s) is ends
 
 pub whole_runs : WholeRunsAreReplayed

@@ -8,6 +8,7 @@ pub mod Generated
 pub mod Replayed
 pub mod Checked
 pub mod Looped
+pub mod LoopLaws
 pub mod Spans
 pub mod ReplayLaws
 pub mod PlanLaws

@@ -7,6 +7,7 @@ mod command;
 mod explanation;
 mod gen_command;
 mod loop_command;
+mod loop_laws;
 mod plan_command;
 pub mod plan_laws;
 mod replay_command;
@@ -18,6 +19,7 @@ mod whole_file;
 mod world_file;
 
 pub use explanation::explain;
+pub use loop_laws::whole_scripts_are_looped;
 pub use planner::{Unwatched, Watch};
 pub use replay_laws::{replays_pass_the_audit, unbroken_logs_are_audited, whole_runs_are_replayed};
 pub use run::span;
