@@ -20,7 +20,7 @@ use Rattle.frame_link.specs.Frames.{Sent, IsHonest, arrived}
 use Rattle.span_node.specs.declared.fault.LoopFault.{LoopFault}
 use Rattle.span_node.specs.declared.fault.LoopFault.TheVariants.{Bad, Limit, BadEvent, WriteFault, LinkFault, Strange, NoMemory}
 use Rattle.span_node.specs.declared.running.Running.{Running}
-use Rattle.span_node.specs.Traffic.{Traffic, Carries, Answered, Goes, IsFresh}
+use Rattle.span_node.specs.Traffic.{Traffic, Carries, Answered, Goes}
 use Rattle.span_node.specs.Carried.{carried, is_same, first_same}
 use Rattle.span_node.specs.Rounds.{Round, loop_events, answers_of, script_of}
 use Rattle.span_node.specs.InOrder.{Turn, frames_so_far, IsInStep}

@@ -1,5 +1,5 @@
 -- In what a loop marks, wherever it ends, the history of each strong key is that of one register.
-use Rattle.std.proofs.Common.{◌≡◌, ℕ, ◌⊎◌, inl, inr, List, [], ◌∷◌, ◌++◌, Option, Result, Ok, Err, sym, subst, ◌∙◌}
+use Rattle.std.proofs.Common.{◌≡◌, ℕ, List, [], ◌∷◌, ◌++◌, sym, subst, ◌∙◌}
 use Rattle.std.proofs.lemmas.List.{append-nil}
 use Rattle.run_marks.specs.declared.mark.Mark.{Mark}
 use Rattle.world_core.specs.declared.event.Event.{Event}

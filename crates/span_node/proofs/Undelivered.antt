@@ -11,7 +11,7 @@ use Rattle.world_core.specs.declared.event.Event.TheVariants as event
 use Rattle.schedule_text.specs.declared.setting.Form.TheVariants.{Script}
 use Rattle.schedule_text.specs.declared.fault.ScheduleFault.{ScheduleFault}
 use Rattle.schedule_text.specs.Flaws.{both, made, formed}
-use Rattle.schedule_text.specs.Words.{words_of, is_word, one, two, lines_of}
+use Rattle.schedule_text.specs.Words.{words_of, is_word, two, lines_of}
 use Rattle.schedule_text.specs.Numbers.{count_says}
 use Rattle.schedule_text.specs.Headers.{Opened, header_says, begin_line}
 use Rattle.schedule_text.specs.Tables.{setting_of, table_says}

@@ -1,5 +1,5 @@
 -- Which loops go to the end of their scripts.
-use Rattle.std.proofs.Common.{◌≡◌, ℕ, zero, suc, ◌+◌, ◌-◌, ◌≤◌, ◌⊎◌, inl, inr, Bool, true, false, List, [], ◌∷◌, ◌++◌, length, refl, sym, ap, ◌∙◌, subst, arith}
+use Rattle.std.proofs.Common.{◌≡◌, ℕ, zero, suc, ◌+◌, ◌-◌, ◌≤◌, inl, inr, Bool, true, false, List, [], ◌∷◌, ◌++◌, length, refl, sym, ap, ◌∙◌, subst, arith}
 use Rattle.std.specs.Prelude.{nat_le, slice_get, Option, Some, None, Result, Ok, Err}
 use Rattle.std.proofs.lemmas.Bool.{leb-true, leb-false}
 use Rattle.std.proofs.lemmas.List.{append_assoc, append-nil, length-append}
@@ -24,7 +24,7 @@ use Rattle.span_node.specs.Traffic.{Traffic, IsFresh}
 use Rattle.span_node.specs.Carried.{carried, first_same}
 use Rattle.span_node.specs.Rounds.{with_delivery, loop_events}
 use Rattle.span_node.specs.InOrder.{Turn, with_next, turned_by, turned, frames_so_far, in_order, AreInOrder}
-use Rattle.span_node.specs.Loops.{event_limit, looped, IsRefused, IsFull, IsStrange, LoopEnds}
+use Rattle.span_node.specs.Loops.{looped, IsRefused, IsFull, IsStrange, LoopEnds}
 use Rattle.span_node.specs.WholeLoops.{IsTakenInOrder, IsTakenAsAnswered, IsOverOrFailed}
 use Rattle.span_node.proofs.Ordered.{honest_known, stays, at_end}
 

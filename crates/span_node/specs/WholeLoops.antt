@@ -1,5 +1,5 @@
 -- Which scripts a loop runs to their end, but for the outside.
-use Rattle.std.specs.Prelude.{ℕ, ◌≡◌, ◌≤◌, List, [], length, Option, None, Result, Ok, Err}
+use Rattle.std.specs.Prelude.{ℕ, ◌≡◌, ◌≤◌, List, [], length, None, Result, Ok, Err}
 use Rattle.world_core.specs.declared.event.Event.{Event}
 use Rattle.world_core.specs.Run.{run_of}
 use Rattle.schedule_text.specs.Schedules.{Schedule}
