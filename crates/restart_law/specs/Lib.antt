@@ -1,0 +1,5 @@
+pub mod Unlimited
+pub mod Restart
+pub mod Renumbered
+pub mod Laws
+pub mod Rows
