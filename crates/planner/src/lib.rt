@@ -15,5 +15,7 @@ mod tree;
 mod watch;
 
 pub use ends::{PlanEnd, PlanFault, SetEnd};
+pub use pen::Pen;
 pub use plan::{plan_all, plan_set};
+pub use tree::{Tree, write_tree};
 pub use watch::{Unwatched, Watch};

@@ -18,7 +18,7 @@ use workload::World;
 
 /// Writes a plan line by line, through a buffer. A line's memory serves the next.
 #[derive(Debug, Drop)]
-pub(crate) struct Pen {
+pub struct Pen {
     buffer: SinkBuffer,
     line: String,
 }
@@ -33,7 +33,7 @@ impl Model for Pen {
 
 impl Pen {
     /// A pen that wrote nothing.
-    pub(crate) fn make(alloc: Global) -> Result<Pen, AllocError>
+    pub fn make(alloc: Global) -> Result<Pen, AllocError>
         ensures { IfOk result (λ pen. pen ≡ []) }
     {
         Ok(Pen {
@@ -76,7 +76,7 @@ impl Pen {
     }
 
     /// Puts a line of a tree.
-    pub(crate) fn put_tree_line<K: Sink>(
+    pub fn put_tree_line<K: Sink>(
         &mut self,
         out: &mut K,
         line: &Line,
@@ -179,8 +179,19 @@ impl Pen {
         put_line(&mut self.buffer, out, &self.line)
     }
 
+    /// Puts a text.
+    pub fn put_text<K: Sink>(&mut self, out: &mut K, piece: &str) -> Result<(), PlanFault>
+        ensures tells { (from : Option (List ℕ)) (text : List ℕ) → IsSaid from (K.taken out.old) self.old text
+            → Tells from (K.taken out.new) self.new (text ++ piece.now) result }
+
+        ensures faults_stay { K.faults out.old ≤ K.faults out.new }
+        ensures failed { IsErrOf result PlanFault.WriteFault → Rose (K.faults out.old) (K.faults out.new) }
+    {
+        put_line(&mut self.buffer, out, piece)
+    }
+
     /// Hands all that is kept to the sink.
-    pub(crate) fn flush<K: Sink>(&mut self, out: &mut K) -> Result<(), PlanFault>
+    pub fn flush<K: Sink>(&mut self, out: &mut K) -> Result<(), PlanFault>
         ensures flushes { (from : Option (List ℕ)) (text : List ℕ) → IsSaid from (K.taken out.old) self.old text
             → MatchResult result (λ _. Appends from (K.taken out.new) text) (λ _. IsFrontTaken from (K.taken out.new) text) }
 

@@ -13,16 +13,33 @@ use std::alloc::{AllocError, Global};
 use workload::World;
 use zero_one::Program;
 
-/// The search of a set's program, with the line that it gave last.
+/// The search of a program, with the line that it gave last.
 #[derive(Drop)]
-pub(crate) struct Tree {
-    pub(crate) program: Program,
-    pub(crate) line: LineBuf,
-    pub(crate) search: Search,
+pub struct Tree {
+    pub program: Program,
+    pub line: LineBuf,
+    pub search: Search,
 }
 
 impl Tree {
-    /// A search that gave no line, and is to give at most `budget`.
+    /// A search of a program that gave no line, and is to give at most `budget`.
+    pub fn of(alloc: Global, program: Program, budget: u64) -> Result<Tree, AllocError>
+        requires { budget ≤ 10 ^ 9 }
+        ensures program { IfOk result (λ tree. tree.program ≡ program) }
+        ensures budget { IfOk result (λ tree. tree.search.budget ≡ budget) }
+        ensures stands { IfOk result (λ tree. StandsFor tree.program [] tree.search) }
+        ensures room { IfOk result (λ tree. length tree.program.rows ≤ tree.line.room) }
+    {
+        let line = LineBuf::make(alloc, &program)?;
+        let search = Search::make(alloc, &program, budget)?;
+        Ok(Tree {
+            program,
+            line,
+            search,
+        })
+    }
+
+    /// A search of a set's program that gave no line, and is to give at most `budget`.
     pub(crate) fn make(
         alloc: Global,
         world: &World,
@@ -37,18 +54,12 @@ impl Tree {
         ensures room { IfOk result (λ tree. length tree.program.rows ≤ tree.line.room) }
     {
         let program = encode(alloc, world, set)?;
-        let line = LineBuf::make(alloc, &program)?;
-        let search = Search::make(alloc, &program, budget)?;
-        Ok(Tree {
-            program,
-            line,
-            search,
-        })
+        Tree::of(alloc, program, budget)
     }
 }
 
 /// Writes the lines of a search's tree as the search gives them, and tells how it ends.
-pub(crate) fn write_tree<K: Sink, W: Watch>(
+pub fn write_tree<K: Sink, W: Watch>(
     program: &Program,
     search: &mut Search,
     line: &mut LineBuf,
