@@ -2,7 +2,7 @@ ghost use Rattle.std.specs.Prelude.{◌≡◌, ◌<◌, ◌≤◌, false, length
 ghost use Rattle.replica_journal.specs.Counting.{Counts};
 ghost use Rattle.replica_journal.specs.Opening.{open_failed};
 ghost use Rattle.replica_journal.specs.Opened.{Opens};
-ghost use Rattle.replica_journal.specs.Journaled.{disk_of, opened_of};
+ghost use Rattle.replica_journal.specs.Journaled.{IsKeptIn, disk_of, opened_of};
 
 use crate::disk::Disk;
 use crate::open_fault::OpenFault;
@@ -80,9 +80,10 @@ impl<D: Disk> KeptReplica<D> {
         self.place.records
     }
 
-    /// The disk.
+    /// The disk. Unless it failed, it is at rest with messages that made the replica's state.
     pub fn into_disk(self) -> D
-        ensures { result ≡ self.disk }
+        ensures disk { result ≡ self.disk }
+        ensures kept { self.shut ≡ false → IsKeptIn (D.told result) self.state self.place }
     {
         let KeptReplica { disk, .. } = self;
         disk

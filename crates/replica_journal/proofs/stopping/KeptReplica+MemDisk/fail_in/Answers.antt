@@ -26,7 +26,7 @@ returns-in-None c =
     let key = subst (λ (v : Journaled HeldDisk). IfSome (request_key c.args.message.now) (λ key. key.0 < length v.state.kept)) (sym c.self.view_is) c.requires.key in
     let armed : c.fail_in.new.self ≡ record { history = c.self.inside.disk.history; calls = stop_in c.self.inside.disk.calls c.args.call } =
     c.fail_in.ensures ∙ ap (λ (n : ℕ). record { history = c.self.inside.disk.history; calls = stop_in c.self.inside.disk.calls n }) c.from.ensures in
-    let now : c.into_disk.result.history ≡ c.take-taken.new.self.disk.history = ap (λ (d : HeldDisk). d.history) c.into_disk.ensures in
+    let now : c.into_disk.result.history ≡ c.take-taken.new.self.disk.history = ap (λ (d : HeldDisk). d.history) c.into_disk.ensures.disk in
     subst (λ (v : Journaled HeldDisk). KeepsStopped v.state v.place c.args.message.now c.args.call c.into_disk.result.history) c.self.view_is
     (elim (logged_or_not c.args.message.now) [
       | inl logged ↦
