@@ -1,0 +1,6 @@
+mod Ahead
+mod Ends
+mod Fronts
+mod Giving
+mod Refilling
+mod Rounds

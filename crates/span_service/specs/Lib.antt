@@ -1,0 +1,9 @@
+pub mod Asking
+pub mod Coming
+pub mod Fronts
+pub mod Inputs
+pub mod Memory
+pub mod Pieces
+pub mod Requests
+pub mod Service
+pub mod Serving
