@@ -1,6 +1,6 @@
 -- The bytes of printed texts: where one of them is missing, and where a text falls apart.
 use Rattle.std.proofs.Common.{◌≡◌, ℕ, ◌+◌, ◌<◌, ◌≤◌, ◌/◌, ◌%◌, ◌^◌, ◌==◌, Bool, true, false, cond, ◌&&◌, ◌||◌, List, [], ◌∷◌, ◌++◌, refl, sym, ap, subst, ◌∙◌, arith}
-use Rattle.std.specs.Prelude.{nat_le, not, map, codes, slice_index}
+use Rattle.std.specs.Prelude.{nat_le, not, map, slice_index}
 use Rattle.std.specs.List.{list_all, flat_map}
 use Rattle.std.specs.Fmt.{decimal}
 use Rattle.std.specs.Char.{is_ascii_digit}
@@ -10,9 +10,9 @@ use Rattle.std.proofs.lemmas.List.Folds.{list_all-append}
 use Rattle.std.proofs.lemmas.List.Sums.{AllPass-from_list_all}
 use Rattle.hex.specs.Hex.{encode_lower, encode_with, lower_digits, IsBytes}
 use Rattle.run_marks.specs.Text.{value_text}
-use Rattle.schedule_text.specs.Words.{is_joint, is_word, lines_of}
+use Rattle.schedule_text.specs.Words.{is_joint, lines_of}
 use Rattle.schedule_text.specs.Printed.{joined, commas}
-use Rattle.schedule_text.proofs.Joining.{AreFree, AllFree, free_append}
+use Rattle.schedule_text.proofs.Joining.{AreFree, AllFree}
 
 -- each byte of a text passes
 abbrev pub Has : (ℕ → Bool) → List ℕ → Type 0

@@ -1,5 +1,5 @@
 -- The line that is printed of an event says that event.
-use Rattle.std.proofs.Common.{◌≡◌, ◌≢◌, ℕ, zero, suc, ◌+◌, ◌<◌, ◌≤◌, ◌^◌, ◌==◌, Bool, true, false, ◌&&◌, ◌||◌, List, [], ◌∷◌, ◌++◌, length, slice_index_or, Result, Ok, refl, sym, ap, ◌∙◌, append_assoc, append-nil, arith}
+use Rattle.std.proofs.Common.{◌≡◌, ◌≢◌, ℕ, suc, ◌<◌, ◌≤◌, ◌^◌, ◌==◌, Bool, true, false, ◌||◌, List, [], ◌∷◌, ◌++◌, length, slice_index_or, Result, Ok, refl, sym, ap, ◌∙◌, append_assoc, append-nil, arith}
 use Rattle.std.specs.Prelude.{codes, map}
 use Rattle.std.specs.List.{All, AllPairs, flat_map, list_all, list_any}
 use Rattle.std.proofs.lemmas.List.Folds.{list_any-append}
@@ -7,8 +7,6 @@ use Rattle.std.specs.Fmt.{decimal}
 use Rattle.std.proofs.lemmas.Bool.{and_from, lt-ltb, false_from_ne_true, eqb-true}
 use Rattle.std.proofs.lemmas.List.Elements.{All-head, All-tail}
 use Rattle.std.proofs.lemmas.List.{length-map}
-use Rattle.span_base.specs.declared.ids.SetId.{SetId}
-use Rattle.span_base.specs.declared.policy.Policy.{Policy}
 use Rattle.run_marks.specs.declared.mark.Work.{Work}
 use Rattle.run_marks.specs.declared.mark.Work.TheVariants as work
 use Rattle.run_marks.specs.Text.{value_text}
@@ -24,10 +22,10 @@ use Rattle.schedule_text.specs.declared.setting.Form.TheVariants as form
 use Rattle.schedule_text.specs.declared.setting.Mode.{Mode}
 use Rattle.schedule_text.specs.declared.setting.Setting.{Setting}
 use Rattle.schedule_text.specs.Flaws.{judged}
-use Rattle.schedule_text.specs.Words.{words_of, entries_of, is_joint, split}
+use Rattle.schedule_text.specs.Words.{words_of, entries_of, is_joint}
 use Rattle.schedule_text.specs.Events.{plain_call, call_says, write_says, put_says, stop_says, give_up_says, deliver_says, event_by, by_words, event_says}
 use Rattle.schedule_text.specs.Tables.{mode_of, setting_of, entry_says, with_entry, entries_from, fits_set, fitting, table_says}
-use Rattle.schedule_text.specs.Printed.{joined, line_text, entry_words, table_words, call_words, event_words, event_text, policy_words}
+use Rattle.schedule_text.specs.Printed.{joined, line_text, entry_words, table_words, call_words, event_words, event_text}
 use Rattle.schedule_text.specs.Spellable.{IsSpelledPolicy, IsSpelledWork, IsSpelledTable, IsSpelledEvent}
 use Rattle.schedule_text.proofs.Joining.{AllFree, split_joined}
 use Rattle.schedule_text.proofs.Bytes.{AllHave, is_print, is_inked, all_inked, all_free, print_digits, print_value, no_joints, have_both}
@@ -185,7 +183,7 @@ event_inked form header (event.GiveUp proxy seq) opens is = (refl, all_inked (de
 event_inked form header (event.Publish table) opens is = (refl, table_print header.replicas (length (map mode_of header.sets)) table opens.replicas.1 (modes_few header opens) (are_entries form header table is))
 
 -- a line of words
-words_say : (setting : Setting) (words : List (List ℕ)) (event : Event) → AllHave is_inked words → by_words setting words ≡ Ok event → event_says setting (line_text words) ≡ Ok event
+pub words_say : (setting : Setting) (words : List (List ℕ)) (event : Event) → AllHave is_inked words → by_words setting words ≡ Ok event → event_says setting (line_text words) ≡ Ok event
 unfolding event_says
 words_say setting [] event have says = absurd (cc)
 words_say setting (word ∷ words) event have says = ap (by_words setting) (words_back word words have) ∙ says

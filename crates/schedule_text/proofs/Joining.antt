@@ -1,5 +1,5 @@
 -- Pieces that are joined, and fall apart again where they were joined.
-use Rattle.std.proofs.Common.{◌≡◌, ℕ, zero, suc, ◌+◌, ◌<◌, ◌≤◌, min, Bool, true, false, cond, ◌||◌, List, [], ◌∷◌, ◌++◌, length, take, drop, slice_index_or, drop-cons, add-one, refl, sym, ap, ◌∙◌, append_assoc, append-nil, arith}
+use Rattle.std.proofs.Common.{◌≡◌, ℕ, suc, ◌+◌, ◌<◌, ◌≤◌, min, Bool, true, false, cond, ◌||◌, List, [], ◌∷◌, ◌++◌, length, take, drop, slice_index_or, drop-cons, add-one, refl, sym, ap, ◌∙◌, append_assoc, append-nil, arith}
 use Rattle.std.specs.Prelude.{OnOk, Result, Ok, Err, nat_le, map, codes}
 use Rattle.std.specs.List.{flat_map}
 use Rattle.std.specs.Fmt.{decimal}
@@ -13,10 +13,10 @@ use Rattle.span_base.specs.declared.dc_set.DcSet.{DcSet}
 use Rattle.span_base.specs.declared.policy.Hop.{Hop}
 use Rattle.span_base.specs.declared.policy.Near.{Near}
 use Rattle.span_base.specs.declared.policy.Quorum.{Quorum}
-use Rattle.span_base.specs.DcSet.{has, centres_below, centres_of}
+use Rattle.span_base.specs.DcSet.{has, centres_below}
 use Rattle.span_base.proofs.Sets.{centres_of-is, centres_below-more, centres_below-zero}
 use Rattle.epoch_directory.specs.declared.table.SetPolicy.{SetPolicy}
-use Rattle.schedule_text.specs.Words.{led_by, split}
+use Rattle.schedule_text.specs.Words.{split}
 use Rattle.schedule_text.specs.Printed.{joined, commas, next_text, parents_text, replicas_text, spaced, quorum_text, near_text, entry_words, table_words, lane_text, lane_words}
 
 -- what follows from what a call did, where it did it

@@ -1,5 +1,5 @@
 -- A restart run that is read has a header that opens a store, and events that may happen there.
-use Rattle.std.proofs.Common.{◌≡◌, ℕ, ◌+◌, ◌≤◌, ◌==◌, Bool, true, false, cond, ◌&&◌, List, [], ◌∷◌, length, Option, Some, None, Result, Ok, Err, refl, subst, arith}
+use Rattle.std.proofs.Common.{◌≡◌, ℕ, ◌+◌, ◌≤◌, ◌==◌, Bool, true, false, cond, ◌&&◌, List, [], ◌∷◌, length, Option, Some, None, Result, Ok, Err, refl, subst}
 use Rattle.std.specs.Prelude.{codes, nat_le, IfOk}
 use Rattle.std.specs.List.{All}
 use Rattle.std.proofs.lemmas.Bool.{leb-true}
@@ -13,13 +13,13 @@ use Rattle.schedule_text.specs.declared.flaw.Flaw.{Flaw}
 use Rattle.schedule_text.specs.declared.flaw.Flaw.TheVariants.{Syntax, Number}
 use Rattle.schedule_text.specs.declared.setting.Form.TheVariants.{Plain}
 use Rattle.schedule_text.specs.declared.fault.ScheduleFault.{ScheduleFault}
-use Rattle.schedule_text.specs.Flaws.{both, made, formed}
+use Rattle.schedule_text.specs.Flaws.{both, made}
 use Rattle.schedule_text.specs.Words.{lines_of, words_of, is_word, three}
 use Rattle.schedule_text.specs.Numbers.{spelled, count_says}
 use Rattle.schedule_text.specs.Headers.{Opened, header_says, begin_line}
 use Rattle.schedule_text.specs.Tables.{setting_of}
 use Rattle.schedule_text.specs.Events.{event_by}
-use Rattle.schedule_text.specs.Kept.{KeptSchedule, disk_call, image_says, crash_says, kept_by, by_words, kept_event_says, first_kept_fault, kept_ahead_of, kept_events_of, unless_kept_fault, with_kept_events, kept_schedule_of}
+use Rattle.schedule_text.specs.Kept.{KeptSchedule, disk_call, image_says, crash_says, kept_by, by_words, kept_event_says, first_kept_fault, kept_ahead_of, kept_events_of, unless_kept_fault, with_kept_events}
 use Rattle.schedule_text.specs.KeptLaws.{KeptMayAlways, IsKeptSchedule, KeptSchedulesMayHappen}
 use Rattle.schedule_text.proofs.Read.{made_ok, both_ok, formed_ok, test_ok}
 use Rattle.schedule_text.proofs.Happening.{MayIf, may_by, header_opens}

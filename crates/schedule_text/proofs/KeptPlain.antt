@@ -10,13 +10,13 @@ use Rattle.schedule_text.specs.declared.flaw.Flaw.{Flaw}
 use Rattle.schedule_text.specs.declared.setting.Form.TheVariants.{Plain}
 use Rattle.schedule_text.specs.declared.setting.Setting.{Setting}
 use Rattle.schedule_text.specs.declared.fault.ScheduleFault.{ScheduleFault}
-use Rattle.schedule_text.specs.Flaws.{at_line, made, within, after}
+use Rattle.schedule_text.specs.Flaws.{made, within}
 use Rattle.schedule_text.specs.Words.{lines_of, words_of, is_word}
 use Rattle.schedule_text.specs.Headers.{Opened, header_says, begin_line}
 use Rattle.schedule_text.specs.Tables.{setting_of}
 use Rattle.schedule_text.specs.Events as plain
-use Rattle.schedule_text.specs.Schedules.{Schedule, numbered, first_fault, fault_or, events_of, ahead_of, unless_fault, with_events, schedule_of}
-use Rattle.schedule_text.specs.Kept.{KeptSchedule, crash_says, kept_by, by_words, kept_event_says, kept_numbered, first_kept_fault, kept_events_of, unless_kept_fault, with_kept_events, kept_schedule_of}
+use Rattle.schedule_text.specs.Schedules.{Schedule, numbered, first_fault, fault_or, events_of, unless_fault, with_events}
+use Rattle.schedule_text.specs.Kept.{KeptSchedule, crash_says, kept_by, by_words, kept_event_says, kept_numbered, first_kept_fault, kept_events_of, unless_kept_fault, with_kept_events}
 use Rattle.schedule_text.specs.KeptLaws.{SchedulesAreRestartRuns}
 use Rattle.schedule_text.proofs.Read.{after_ok}
 

@@ -16,4 +16,5 @@ mod NumbersBack
 mod PoliciesBack
 mod EventsBack
 mod SchedulesBack
+mod Deliveries
 mod Worked

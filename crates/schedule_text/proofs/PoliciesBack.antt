@@ -1,6 +1,6 @@
 -- A policy that is printed says what it was printed of.
-use Rattle.std.proofs.Common.{◌≡◌, ◌≢◌, ℕ, zero, suc, ◌+◌, ◌-◌, ◌<◌, ◌≤◌, ◌^◌, ◌==◌, Bool, true, false, List, [], ◌∷◌, ◌++◌, length, take, drop, Result, Ok, refl, sym, ap, subst, ◌∙◌, append_assoc, append-nil, length-append, arith}
-use Rattle.std.specs.Prelude.{codes, map}
+use Rattle.std.proofs.Common.{◌≡◌, ℕ, ◌-◌, ◌<◌, ◌≤◌, ◌==◌, false, List, [], ◌∷◌, ◌++◌, length, take, drop, Result, Ok, refl, sym, ap, ◌∙◌, append_assoc, append-nil, arith}
+use Rattle.std.specs.Prelude.{map}
 use Rattle.std.specs.List.{All, flat_map}
 use Rattle.std.specs.Fmt.{decimal}
 use Rattle.std.proofs.lemmas.Bool.{false_from_ne_true, eqb-true}
@@ -10,7 +10,6 @@ use Rattle.std.proofs.Math.Seq.{take-append_seam, drop-append_seam}
 use Rattle.span_base.specs.DcSet.{centres_of}
 use Rattle.span_base.specs.Policy.{lane_of, lanes_of}
 use Rattle.span_base.specs.declared.dc_set.DcSet.{DcSet}
-use Rattle.span_base.specs.declared.ids.DcId.{DcId}
 use Rattle.span_base.specs.declared.words.What.TheVariants as what
 use Rattle.span_base.specs.declared.policy.Near.{Near}
 use Rattle.span_base.specs.declared.policy.Hop.{Hop}
@@ -20,9 +19,8 @@ use Rattle.span_base.specs.declared.policy.Policy.TheVariants as policy
 use Rattle.schedule_text.specs.declared.flaw.Flaw.{Flaw}
 use Rattle.schedule_text.specs.declared.lanes.Lanes.{Lanes}
 use Rattle.schedule_text.specs.Flaws.{after, listed}
-use Rattle.schedule_text.specs.Words.{split_at}
-use Rattle.schedule_text.specs.Policies.{tolerance_says, has_room, quorum_says, near_of, near_says, quorums_from, nears_from, hop_says, hops_from, with_member, lanes_from, strong_says, direct_says, relay_says, policy_says}
-use Rattle.schedule_text.specs.Printed.{joined, commas, replicas_text, quorum_text, near_text, parents_text, lane_text, lane_words, policy_words}
+use Rattle.schedule_text.specs.Policies.{tolerance_says, has_room, quorum_says, near_of, near_says, quorums_from, nears_from, hops_from, with_member, lanes_from, strong_says, direct_says, relay_says, policy_says}
+use Rattle.schedule_text.specs.Printed.{replicas_text, quorum_text, near_text, parents_text, lane_text, lane_words, policy_words}
 use Rattle.schedule_text.specs.Spellable.{AreReplicas, IsSpelledQuorum, IsSpelledNear, IsSpelledStrong, IsSpelledDirect, HasLanes, IsSpelledPolicy}
 use Rattle.schedule_text.proofs.Joining.{split_joined}
 use Rattle.schedule_text.proofs.Bytes.{Has, AllHave, AllBelow, is_listed, is_print, all_free, listed_digits, listed_commas, print_digits, listed_print, have_more, have_joined}

@@ -1,5 +1,5 @@
 -- The text that is printed of a schedule says that schedule.
-use Rattle.std.proofs.Common.{◌≡◌, ℕ, ◌+◌, ◌<◌, ◌≤◌, ◌^◌, ◌==◌, Bool, true, false, List, [], ◌∷◌, ◌++◌, length, slice_index_or, Option, None, Result, Ok, refl, sym, ap, ◌∙◌, append_assoc, append-nil, length-append, arith}
+use Rattle.std.proofs.Common.{◌≡◌, ℕ, ◌+◌, ◌<◌, ◌≤◌, ◌^◌, ◌==◌, false, List, [], ◌∷◌, ◌++◌, length, slice_index_or, None, Ok, refl, sym, ap, ◌∙◌, append_assoc, append-nil, length-append, arith}
 use Rattle.std.specs.Prelude.{codes, map}
 use Rattle.std.specs.List.{All, flat_map}
 use Rattle.std.specs.Fmt.{decimal}
@@ -14,18 +14,13 @@ use Rattle.wire_msg.proofs.SoundTest.{decide_sound}
 use Rattle.world_core.specs.declared.event.Header.{Header}
 use Rattle.world_core.specs.declared.event.Event.{Event}
 use Rattle.world_core.specs.Run.{IsHeader}
-use Rattle.schedule_text.specs.declared.flaw.Flaw.{Flaw}
-use Rattle.schedule_text.specs.declared.fault.ScheduleFault.{ScheduleFault}
 use Rattle.schedule_text.specs.declared.setting.Form.{Form}
-use Rattle.schedule_text.specs.declared.setting.Setting.{Setting}
-use Rattle.schedule_text.specs.Flaws.{within, after}
 use Rattle.schedule_text.specs.Words.{lines_of}
-use Rattle.schedule_text.specs.Headers.{Opened, blank, is_none, is_begin, replicas_line, set_line, key_line, proxy_line, line_by, header_line, by_words, header_from, header_says, begin_line}
+use Rattle.schedule_text.specs.Headers.{Opened, blank, is_begin, replicas_line, set_line, key_line, proxy_line, line_by, header_line, by_words, header_from, header_says, begin_line}
 use Rattle.schedule_text.specs.Tables.{setting_of}
-use Rattle.schedule_text.specs.Events.{event_says}
-use Rattle.schedule_text.specs.Schedules.{Schedule, numbered, first_fault, events_of, unless_fault, with_events, schedule_of}
-use Rattle.schedule_text.specs.Printed.{joined, line_text, policy_words, event_words, event_text, ended, first_text, set_text, key_text, proxy_text, header_text, schedule_text}
-use Rattle.schedule_text.specs.Spellable.{IsSpelledPolicy, IsSpelledHeader, IsSpelledEvent, IsSpellable, SchedulesAreReadBack}
+use Rattle.schedule_text.specs.Schedules.{Schedule, numbered, first_fault, events_of, unless_fault, with_events}
+use Rattle.schedule_text.specs.Printed.{joined, line_text, policy_words, event_words, event_text, ended, first_text, set_text, key_text, proxy_text, header_text}
+use Rattle.schedule_text.specs.Spellable.{IsSpelledPolicy, IsSpelledHeader, IsSpelledEvent, SchedulesAreReadBack}
 use Rattle.schedule_text.proofs.Joining.{AreFree}
 use Rattle.schedule_text.proofs.Bytes.{AllHave, is_inked, is_lined, all_inked, print_digits, lines_next, line_free, free_of}
 use Rattle.schedule_text.proofs.NumbersBack.{number_back, count_back, centre_back}

@@ -8,6 +8,7 @@ pub mod Headers
 pub mod Tables
 pub mod Events
 pub mod Schedules
+pub mod Deliveries
 pub mod Given
 pub mod Kept
 pub mod KeptGiven

@@ -1,5 +1,5 @@
 -- The schedules that the grammar spells: what is printed of them is read back.
-use Rattle.std.specs.Prelude.{◌≡◌, ◌≢◌, ℕ, ◌<◌, ◌≤◌, ◌^◌, true, List, ◌++◌, map, length, Ok}
+use Rattle.std.specs.Prelude.{◌≡◌, ◌≢◌, ℕ, ◌<◌, ◌≤◌, ◌^◌, true, List, map, length, Ok}
 use Rattle.std.specs.List.{All, AllPairs, flat_map}
 use Rattle.hex.specs.Hex.{IsBytes}
 use Rattle.span_base.specs.DcSet.{bits_of, centres_of}
@@ -22,7 +22,7 @@ use Rattle.schedule_text.specs.declared.setting.Form.TheVariants as form
 use Rattle.schedule_text.specs.Policies.{union_of}
 use Rattle.schedule_text.specs.Tables.{mode_of, fits_set}
 use Rattle.schedule_text.specs.Schedules.{Schedule, schedule_of}
-use Rattle.schedule_text.specs.Printed.{header_text, event_text, schedule_text}
+use Rattle.schedule_text.specs.Printed.{schedule_text}
 
 -- some of so many replicas
 pub record AreReplicas (replicas : ℕ) (set : DcSet) : Type 0 where

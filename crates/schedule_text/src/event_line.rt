@@ -118,7 +118,7 @@ fn deliver(rest: Option<&[u8]>) -> Result<Event, Flaw>
 }
 
 /// Whether schedules of the form deliver messages.
-fn delivers(form: Form) -> bool
+pub(crate) fn delivers(form: Form) -> bool
     ensures { result ≡ delivers form }
 {
     match form {

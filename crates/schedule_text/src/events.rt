@@ -3,6 +3,7 @@
 ghost use Rattle.std.specs.Prelude.{◌≡◌, min};
 ghost use Rattle.schedule_text.specs.Schedules.{events_at};
 
+use crate::delivery_line::next_delivery;
 use crate::event_line::event_of;
 use crate::lines::Lines;
 use crate::place::Place;
@@ -57,6 +58,11 @@ impl<'a> Events<'a> {
         ensures { GivesNext self.old self.new result }
     {
         let mut lines = self.lines;
+        if let Some(message) = next_delivery(&self.setting, &mut lines) {
+            self.lines = lines;
+            self.line += 1;
+            return Ok(Some(Event::Deliver { message }));
+        }
         let Some(text) = lines.next() else {
             return Ok(None);
         };

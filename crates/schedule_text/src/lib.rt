@@ -1,6 +1,7 @@
 //! The text of a schedule: the header that a store opens with, and the events that happen to it.
 #![tactic(auto)]
 
+mod delivery_line;
 mod event_line;
 mod events;
 mod fault;

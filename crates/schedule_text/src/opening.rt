@@ -1,11 +1,13 @@
-ghost use Rattle.std.specs.Prelude.{◌≡◌, ◌+◌, ◌≤◌, drop, length, IfOk};
+ghost use Rattle.std.specs.Prelude.{◌≡◌, ◌+◌, ◌<◌, ◌≤◌, drop, length, IfOk, IsTrue};
 ghost use Rattle.world_core.specs.Run.{IsHeader};
 ghost use Rattle.schedule_text.specs.Left.{lines_left};
 ghost use Rattle.schedule_text.specs.Headers.{begin_line};
 ghost use Rattle.schedule_text.specs.Tables.{setting_of};
 ghost use Rattle.schedule_text.specs.Flaws.{Gives};
 ghost use Rattle.schedule_text.specs.Schedules.{schedule_of, first_fault, numbered, Reads, Checks};
+ghost use Rattle.schedule_text.specs.Deliveries.{ChecksNext};
 
+use crate::delivery_line::next_delivery;
 use crate::event_line::event_of;
 use crate::fault::ScheduleFault;
 use crate::flaw::{Flaw, after, within};
@@ -79,13 +81,36 @@ fn check_events(
 {
     let mut line = first;
     let mut number = 1;
-    while let Some(text) = lines.next() {
-        let said = numbered(alloc, setting, number, text)?;
-        if let Err(flaw) = said {
-            return Err(flaw.at(line));
-        }
+    while check_next(alloc, setting, line, number, lines)? {
         line += 1;
         number += 1;
     }
     Ok(())
+}
+
+/// Looks whether there is a next line, and whether it has a fault: it is this line of the text, and
+/// the event of this number.
+#[tactic(auto, unfolding(crate::specs::Schedules::first_fault))]
+fn check_next(
+    alloc: Global,
+    setting: &Setting,
+    line: u64,
+    number: usize,
+    lines: &mut Lines<'_>,
+) -> Result<bool, ScheduleFault>
+    requires few { length setting.now.modes ≤ 64 }
+    ensures checks { ChecksNext setting.now line number (lines_left lines.old) (lines_left lines.new) result }
+    ensures text { lines.new.text ≡ lines.old.text }
+    ensures further { IfOk result (λ more. IsTrue more → lines.old.at < lines.new.at) }
+{
+    if number <= EVENTS && next_delivery(setting, lines).is_some() {
+        return Ok(true);
+    }
+    let Some(text) = lines.next() else {
+        return Ok(false);
+    };
+    match numbered(alloc, setting, number, text)? {
+        Ok(_) => Ok(true),
+        Err(flaw) => Err(flaw.at(line)),
+    }
 }

@@ -1,6 +1,4 @@
-use Rattle.std.proofs.Common.{◌≡◌, ◌++◌, ◌∷◌, List, min, length, take, drop, slice_index_or, string_bytes, sym, ap, ◌∙◌, refl}
-use Rattle.span_base.specs.declared.policy.Hop.{Hop}
-use Rattle.schedule_text.specs.Printed.{spaced, lane_text, lane_words}
+use Rattle.std.proofs.Common.{string_bytes, refl}
 use Rattle.schedule_text.proofs.Joining.{lanes_none, lanes_more}
 use Rattle.schedule_text.proofs.policy_printing.push_lanes.Goals as goal
 
