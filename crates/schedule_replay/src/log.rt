@@ -48,6 +48,9 @@ impl Log {
         ensures faults_stay { K.faults out.old ≤ K.faults out.new }
         ensures failed { IsErrOf result DeviceFault.Failed → Rose (K.faults out.old) (K.faults out.new) }
     {
+        if marks.len() == 0 {
+            return Ok(());
+        }
         self.lines.clear();
         if push_marks(&mut self.lines, &marks).is_err() {
             return Err(DeviceFault::NoMemory);
