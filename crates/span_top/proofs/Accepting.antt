@@ -1,21 +1,19 @@
 -- What `plan` wrote to its end, `check` accepts.
-use Rattle.std.proofs.Common.{◌≡◌, ℕ, ◌+◌, ◌<◌, ◌≤◌, ◌⊎◌, inl, inr, List, [], length, refl, sym, ap, subst, ◌∙◌, arith}
+use Rattle.std.proofs.Common.{◌≡◌, ℕ, ◌≤◌, inl, inr, List, [], length, sym, ap, subst, ◌∙◌, arith}
 use Rattle.std.specs.Prelude.{Option, Some, None, Result, Ok, Err}
 use Rattle.span_base.specs.Files.{Files, file_of}
 use Rattle.workload.specs.World.{Lists, IsComplete, IsNamed}
 use Rattle.world_text.specs.ReadWorld.{LineFault, refused_for, refused_above}
-use Rattle.planner.specs.Writes.{TakesText}
 use Rattle.plan_check.specs.Plans.{ChecksPlan}
 use Rattle.plan_check.specs.Laws.{IsFailing, IsWholePlan}
 use Rattle.plan_check.specs.declared.fault.CheckFault.{CheckFault}
 use Rattle.plan_check.proofs.WholePlans.{files_accepted, whole_accepted, least_whole, without_whole}
 use Rattle.span_top.specs.declared.status.Status.{Status}
 use Rattle.span_top.specs.declared.status.Status.TheVariants as status
-use Rattle.span_top.specs.WholeFile.{Holds}
 use Rattle.span_top.specs.WorldFile.{FileSays, RefusesWorld, world_says}
 use Rattle.span_top.specs.Planned.{PlanEnds, PlansWorld}
-use Rattle.span_top.specs.Checked.{told, ChecksWorld, StopsCheck, CheckEnds}
-use Rattle.span_top.specs.Words.{Asked, a_plan, a_check, command_of}
+use Rattle.span_top.specs.Checked.{told, StopsCheck, CheckEnds}
+use Rattle.span_top.specs.Words.{Asked}
 use Rattle.span_top.specs.Spans.{Ends, IsDoneOrFailed}
 use Rattle.span_top.specs.PlanLaws.{IsPlanned, WrittenPlansAreAccepted}
 

@@ -1,5 +1,5 @@
 -- How checking a plan makes the endings of `check`.
-use Rattle.std.proofs.Common.{◌≡◌, ℕ, ◌⊎◌, inl, inr, List, Option, Result, Ok, Err, refl, sym, subst}
+use Rattle.std.proofs.Common.{◌≡◌, ℕ, inl, inr, List, Option, Result, Ok, Err, refl, sym, subst}
 use Rattle.span_base.specs.Files.{Files}
 use Rattle.span_base.specs.declared.words.Cause.{Cause}
 use Rattle.span_base.specs.declared.words.What.{What}
@@ -10,7 +10,6 @@ use Rattle.plan_check.specs.declared.fault.CheckFault.TheVariants as fault
 use Rattle.span_top.specs.declared.status.Status.{Status}
 use Rattle.span_top.specs.declared.status.Status.TheVariants as status
 use Rattle.span_top.specs.WorldFile.{FileSays, RefusesWorld}
-use Rattle.span_top.specs.Planned.{TakesNothing}
 use Rattle.span_top.specs.Checked.{ChecksWorld, told, StopsCheck, CheckEnds, WorldChecked}
 use Rattle.span_top.proofs.WorldFiles.{file_whole}
 

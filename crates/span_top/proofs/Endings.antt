@@ -1,5 +1,5 @@
 -- How planning a world makes the endings of `plan`.
-use Rattle.std.proofs.Common.{◌≡◌, ℕ, ◌⊎◌, inl, inr, List, Option, Ok, refl, subst, arith}
+use Rattle.std.proofs.Common.{◌≡◌, ℕ, inl, inr, List, Option, Ok, refl, subst, arith}
 use Rattle.span_base.specs.Files.{Files}
 use Rattle.span_base.specs.declared.ids.SetId.{SetId}
 use Rattle.workload.specs.World.{Lists}

@@ -1,6 +1,6 @@
 -- What a loop may answer is decided by the bytes of its file and by its link.
-use Rattle.std.proofs.Common.{◌≡◌, inl, inr, ℕ, ◌≤◌, Bool, true, List, [], length, Option, Some, None, Ok, Err, subst}
-use Rattle.std.specs.Prelude.{◌⊎◌, Result}
+use Rattle.std.proofs.Common.{◌≡◌, inl, inr, ℕ, ◌≤◌, true, List, [], length, Option, Some, Ok, Err, subst}
+use Rattle.std.specs.Prelude.{Result}
 use Rattle.span_base.specs.Files.{Files, file_of}
 use Rattle.schedule_text.specs.declared.setting.Form.TheVariants.{Script}
 use Rattle.schedule_text.specs.Schedules.{Schedule, schedule_of}
@@ -14,8 +14,7 @@ use Rattle.span_top.specs.declared.status.Status.TheVariants as status
 use Rattle.span_top.specs.WholeFile.{FileIs}
 use Rattle.span_top.specs.Words.{a_loop}
 use Rattle.span_top.specs.Looped.{LoopCommandEnds}
-use Rattle.span_top.specs.Spans.{SpanEnds}
-use Rattle.span_top.specs.LoopLaws.{AsksForLoop, IsLoopedOrFailed, WholeScriptsAreRun, HonestLoopsAreRun}
+use Rattle.span_top.specs.LoopLaws.{IsLoopedOrFailed, WholeScriptsAreRun, HonestLoopsAreRun}
 use Rattle.span_top.proofs.ReplayLaws.{one_file, no_file, not_longer, asked}
 
 -- what a loop of the file may answer, where running its bytes goes to the end but for the outside

@@ -1,5 +1,5 @@
 -- How replaying a schedule makes the endings of `replay`.
-use Rattle.std.proofs.Common.{◌≡◌, ℕ, ◌≤◌, ◌⊎◌, inl, inr, List, length, Option, Result, Ok, Err, refl, subst, arith}
+use Rattle.std.proofs.Common.{◌≡◌, ℕ, ◌≤◌, inl, inr, List, length, Option, Result, Ok, Err, refl, subst, arith}
 use Rattle.span_base.specs.Files.{Files}
 use Rattle.span_base.specs.declared.words.Cause.{Cause}
 use Rattle.span_base.specs.declared.words.What.{What}

@@ -1,5 +1,5 @@
 -- What `gen` does with a sink.
-use Rattle.std.specs.Prelude.{◌≡◌, ℕ, ◌+◌, ◌-◌, ◌⊎◌, ◌++◌, codes, List, Option}
+use Rattle.std.specs.Prelude.{ℕ, ◌+◌, ◌-◌, ◌⊎◌, ◌++◌, codes, List, Option}
 use Rattle.std.specs.Fmt.{decimal}
 use Rattle.span_base.specs.Taken.{Appends, AppendsFront}
 use Rattle.run_marks.specs.Text.{messages_line}

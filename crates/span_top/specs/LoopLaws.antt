@@ -1,5 +1,5 @@
 -- What is true of every loop.
-use Rattle.std.specs.Prelude.{◌≡◌, ℕ, ◌≤◌, Bool, true, List, [], length, Option, Some, Ok}
+use Rattle.std.specs.Prelude.{◌≡◌, ℕ, ◌≤◌, true, List, [], length, Option, Some, Ok}
 use Rattle.span_base.specs.Files.{Files, file_of}
 use Rattle.schedule_text.specs.declared.setting.Form.TheVariants.{Script}
 use Rattle.schedule_text.specs.Schedules.{Schedule, schedule_of}

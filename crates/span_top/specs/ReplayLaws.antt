@@ -9,7 +9,7 @@ use Rattle.schedule_text.specs.Schedules.{Schedule, schedule_of}
 use Rattle.schedule_replay.specs.Replays.{replayed}
 use Rattle.history_audit.specs.Texts.{log_says}
 use Rattle.span_top.specs.declared.status.Status.{Status}
-use Rattle.span_top.specs.declared.status.Status.TheVariants.{Done, NoMemory, ReadFault, WriteFault, TooLarge}
+use Rattle.span_top.specs.declared.status.Status.TheVariants.{Done, TooLarge}
 use Rattle.span_top.specs.Words.{a_replay, an_audit, command_of}
 use Rattle.span_node.specs.Traffic.{Traffic}
 use Rattle.span_top.specs.Spans.{SpanEnds, IsDoneOrFailed}
