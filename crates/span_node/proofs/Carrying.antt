@@ -42,7 +42,7 @@ unfolding carried
 many posts = length-map posts posted
 
 -- two that are one are equal
-same_is : (a b : Sent) → is_same a b ≡ true → b ≡ a
+pub same_is : (a b : Sent) → is_same a b ≡ true → b ≡ a
 unfolding is_same
 same_is a b same =
     let to : b.to ≡ a.to = eqb-true b.to a.to (first_so (b.to == a.to) (bytes_eq b.frame a.frame) same) in
@@ -75,7 +75,7 @@ before index frames sent found tells is k within same =
     let by : IsBy (first_at index (digest_of other.to other.frame)) k = is.has k other (slice_get-get_or frames k sent within) in
     subst (λ (o : Option ℕ). IsBy o k) tells (subst (λ (s : Sent). IsBy (first_at index (digest_of s.to s.frame)) k) (same_is sent other same) by)
 
-differs : (b : Bool) → (b ≡ true → ⊥) → b ≡ false
+pub differs : (b : Bool) → (b ≡ true → ⊥) → b ≡ false
 differs true no-way = absurd (no-way refl)
 differs false no-way = refl
 

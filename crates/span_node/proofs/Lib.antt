@@ -11,4 +11,5 @@ pub mod Scripting
 pub mod Ordered
 pub mod Registers
 pub mod Whole
+pub mod Meeting
 pub mod Telling

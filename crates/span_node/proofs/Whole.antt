@@ -34,7 +34,7 @@ unrefused_before : (r : Run) (outcome : Outcome) (refused : Option StepFault) �
 unrefused_before r outcome None is none = is
 unrefused_before r outcome (Some fault) is none = none
 
-unrefused_front : (header : Header) (events more : List Event) → (run_of header (events ++ more)).refused ≡ None → (run_of header events).refused ≡ None
+pub unrefused_front : (header : Header) (events more : List Event) → (run_of header (events ++ more)).refused ≡ None → (run_of header events).refused ≡ None
 unrefused_front header events [] none = ap (λ (es : List Event). (run_of header es).refused) (sym (append-nil events)) ∙ none
 unrefused_front header events (event ∷ more) none =
     let r : Run = run_of header events in
@@ -94,10 +94,10 @@ is_front header script events front come left all is = by (nat_le (length front)
 
 -- ---- how a loop doesn't end
 
-one_script : (text : List ℕ) (a b : Schedule) → schedule_of Script text ≡ Ok a → schedule_of Script text ≡ Ok b → a ≡ b
+pub one_script : (text : List ℕ) (a b : Schedule) → schedule_of Script text ≡ Ok a → schedule_of Script text ≡ Ok b → a ≡ b
 one_script text a b h k = let e : (let x : Result Schedule ScheduleFault = Ok a in x) ≡ Ok b = sym h ∙ k in cc
 
-read_once : (text : List ℕ) (schedule : Schedule) (fault : ScheduleFault) → schedule_of Script text ≡ Ok schedule → schedule_of Script text ≡ Err fault → ⊥
+pub read_once : (text : List ℕ) (schedule : Schedule) (fault : ScheduleFault) → schedule_of Script text ≡ Ok schedule → schedule_of Script text ≡ Err fault → ⊥
 read_once text schedule fault h k = let e : (let x : Result Schedule ScheduleFault = Ok schedule in x) ≡ Err fault = sym h ∙ k in cc
 
 module _ (text : List ℕ) (schedule : Schedule) (old new : Option (List ℕ)) (from now : Traffic) (read : schedule_of Script text ≡ Ok schedule)

@@ -4,6 +4,7 @@ pub mod InOrder
 pub mod Index
 pub mod Loops
 pub mod Mail
+pub mod Meeting
 pub mod Rounds
 pub mod Standing
 pub mod Traffic

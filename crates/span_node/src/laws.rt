@@ -13,6 +13,8 @@ ghost use Rattle.span_node.specs.Traffic.{Traffic, IsFresh};
 ghost use Rattle.span_node.specs.Rounds.{Round, loop_events, script_of};
 ghost use Rattle.span_node.specs.InOrder.{AreInOrder};
 ghost use Rattle.span_node.specs.Loops.{LoopEnds, RunsInOrder};
+ghost use Rattle.frame_link.specs.Frames.{Sent};
+ghost use Rattle.span_node.specs.Meeting.{IsMet, IsStrangeOrFailed};
 ghost use Rattle.span_node.specs.WholeLoops.{IsTakenInOrder, IsTakenAsAnswered, IsOverOrFailed};
 
 use schedule_text::laws::schedules_may_happen;
@@ -31,6 +33,12 @@ pub fn looped_runs_may_run()
 #[tactic(auto, using(crate::proofs::Ordered::never_strange))]
 pub fn honest_links_bring_nothing_strange()
     ensures { (text : List ℕ) (old new : Option (List ℕ)) (from now : Traffic) (to : ℕ) (frame : List ℕ) → from.honest ≡ Some true → from.sent ≡ Some [] → LoopEnds text old new from now (Err (Strange to frame)) → ⊥ }
+{}
+
+/// A frame that none of the messages sent is, among the answers that a link tells, is told as
+/// strange, but for want of memory and a sink that failed.
+pub fn strange_frames_are_told()
+    ensures { (text : List ℕ) (schedule : Schedule) (old new : Option (List ℕ)) (from now : Traffic) (sent : Sent) (result : Result ℕ LoopFault) → schedule_of Script text ≡ Ok schedule → IsMet schedule from now sent → LoopEnds text old new from now result → IsStrangeOrFailed sent result }
 {}
 
 /// Over a faithful link on which nothing was sent before, and from which nothing came, a loop that

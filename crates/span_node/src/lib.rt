@@ -15,7 +15,7 @@ mod whole_loop;
 pub use fault::LoopFault;
 pub use laws::{
     faithful_links_run_in_order, honest_links_bring_nothing_strange, looped_runs_may_run,
-    whole_scripts_are_run,
+    strange_frames_are_told, whole_scripts_are_run,
 };
 pub use whole_loop::run_loop;
 

@@ -19,7 +19,7 @@ mod whole_file;
 mod world_file;
 
 pub use explanation::explain;
-pub use loop_laws::whole_scripts_are_looped;
+pub use loop_laws::{strange_frames_end_loops, whole_scripts_are_looped};
 pub use planner::{Unwatched, Watch};
 pub use replay_laws::{replays_pass_the_audit, unbroken_logs_are_audited, whole_runs_are_replayed};
 pub use run::span;
