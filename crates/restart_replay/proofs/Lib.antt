@@ -1,0 +1,11 @@
+pub mod Wires
+pub mod Sizes
+pub mod EmptyDisks
+pub mod Replicas
+pub mod Steadying
+pub mod Crashing
+pub mod Few
+pub mod MayRun
+pub mod Opening
+pub mod Going
+pub mod Telling

@@ -1,0 +1,3 @@
+pub mod Replays
+pub mod Steady
+pub mod Standing
