@@ -1,6 +1,7 @@
 -- The part of the next set, from its line on.
-use Rattle.std.proofs.Common.{◌≡◌, ℕ, List, [], ◌∷◌, ◌++◌, length, sym, ◌∙◌, subst, refl, append_assoc, codes}
-use Rattle.std.specs.Prelude.{Option, Some, None, Result, Ok}
+use Rattle.std.proofs.Common.{◌≡◌, ℕ, ◌+◌, List, [], ◌∷◌, ◌++◌, length, sym, ap, ◌∙◌, subst, refl, append_assoc, append-nil, codes}
+use Rattle.std.specs.Prelude.{Option, Some, None, Result, Ok, Err}
+use Rattle.zero_one.specs.Contents.{Contents}
 use Rattle.span_base.specs.Files.{Files}
 use Rattle.bound_cert.specs.declared.leaves.Line.{Line}
 use Rattle.workload.specs.World.{Lists}
@@ -14,12 +15,37 @@ use Rattle.plan_check.proofs.Truths.{accepted_true}
 use Rattle.plan_check.specs.declared.fault.CheckFault.{CheckFault}
 use Rattle.plan_check.specs.declared.lines.PlanLines.{PlanLines}
 use Rattle.plan_check.specs.declared.tree.Claim.{Claim}
-use Rattle.plan_check.specs.Reading.{HasRead}
-use Rattle.plan_check.specs.Places.{program_at, set_read, parts_read, policy_read}
-use Rattle.plan_check.specs.Parts.{ReadsTree, ReadsPolicy}
+use Rattle.plan_check.specs.Reading.{HasRead, line_count}
+use Rattle.plan_check.specs.Places.{program_at, set_read, parts_read, policy_read, Meets, RefusesInTree}
+use Rattle.plan_check.specs.Parts.{ReadsLines, ReadsTree, ReadsPolicy}
 use Rattle.plan_check.specs.Checks.{IsNextPart}
 use Rattle.plan_check.proofs.PartTexts.{read_more, regroup}
+use Rattle.plan_check.proofs.Trees.{begun-is}
 use Rattle.plan_check.proofs.Stops.{read_as}
+
+-- a tree read behind a set's line is that of the set's part
+pub tree_of : (w : Lists) (program : Contents) (files : Option Files) (name : List ℕ) (parts : List Part) (old new : PlanLines) (r : Result (Option Claim) CheckFault) → program ≡ program_at w parts
+    → ((front : List ℕ) → HasRead files name front old → ReadsLines program files name front new r) → HasRead files name (set_read w parts) old → ReadsTree w files name parts new r
+tree_of w program files name parts old new r is reads read =
+    of_part r (subst (λ (p : Contents). ReadsLines p files name (set_read w parts) new r) is (reads (set_read w parts) read))
+  where
+    of_part : (r : Result (Option Claim) CheckFault) → ReadsLines (program_at w parts) files name (set_read w parts) new r → ReadsTree w files name parts new r
+    of_part (Ok (Some claim)) found =
+        let text = begun-is w parts found.0 in (
+          found.0,
+          found.1,
+          found.2,
+          found.3 ∙ ap (λ (t : List ℕ). line_count t + 1) text,
+          read_as files name _ _ new (ap (λ (t : List ℕ). t ++ cost_line claim.cost) text ∙ sym (append-nil (begun_plan w parts found.0 ++ cost_line claim.cost))) found.4,
+        )
+    of_part (Ok None) found = (found.0, found.1, read_as files name _ _ new (ap (λ (t : List ℕ). t ++ codes "result none\n") (begun-is w parts found.0)) found.2)
+    of_part (Err fault) stops = (
+      stops.0,
+      record {
+        taken = stops.1.taken;
+        met = subst (λ (t : List ℕ). Meets files name t (RefusesInTree (program_at w parts) (line_count (set_read w parts)) stops.0) fault) (begun-is w parts stops.0) stops.1.met;
+      },
+    )
 
 -- what reading a tree gives, over the files that the shelf told at first
 pub tree_at : (w : Lists) (files now : Option Files) (name : List ℕ) (parts : List Part) (old new : PlanLines) (r : Result (Option Claim) CheckFault) → now ≡ files

@@ -33,6 +33,12 @@ policy-more w parts tree cost said line =
     ap (λ (t : List ℕ). front ++ t) (flat_map-append ended said (line ∷ []) ∙ ap (λ (t : List ℕ). flat_map ended said ++ t) (append-nil (ended line)))
     ∙ sym (append_assoc front (flat_map ended said) (ended line))
 
+-- the same behind any text
+pub lines-more : (front : List ℕ) (said : List (List ℕ)) (line : List ℕ) → front ++ flat_map ended (said ++ line ∷ []) ≡ (front ++ flat_map ended said) ++ fed line
+lines-more front said line =
+    ap (λ (t : List ℕ). front ++ t) (flat_map-append ended said (line ∷ []) ∙ ap (λ (t : List ℕ). flat_map ended said ++ t) (append-nil (ended line)))
+    ∙ sym (append_assoc front (flat_map ended said) (ended line))
+
 pub lead_on : (w : Lists) (set : ℕ) (said : List (List ℕ)) (d next : Draft) (line : List ℕ) → LeadTo w set said d → step w d line ≡ Ok next
     → next.set ≡ d.set → More ≡ next_of (due_of w next) → LeadTo w set (said ++ line ∷ []) next
 lead_on w set said d next line leads stepped same more = record {

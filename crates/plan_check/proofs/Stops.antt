@@ -5,52 +5,42 @@ use Rattle.span_base.specs.Files.{Files}
 use Rattle.zero_one.specs.Contents.{Contents}
 use Rattle.bound_cert.specs.declared.leaves.Line.{Line}
 use Rattle.cert_checker.specs.Kept.{Kept, StandsFor}
-use Rattle.cert_checker.specs.Lines.{AreTaken}
-use Rattle.workload.specs.World.{Lists}
 use Rattle.shelf_lines.specs.Lines.{fed, Begins}
 use Rattle.shelf_lines.proofs.Bytes.{Begins-front}
-use Rattle.plan_text.specs.Parts.{Part}
-use Rattle.plan_text.specs.Plans.{begun_plan}
+use Rattle.plan_text.specs.PlanText.{tree_text}
 use Rattle.plan_check.specs.declared.fault.CheckFault.{CheckFault}
 use Rattle.plan_check.specs.declared.lines.PlanLines.{PlanLines}
 use Rattle.plan_check.specs.Reading.{HasRead, IsLineRead, Lacks, line_count}
-use Rattle.plan_check.specs.Places.{program_at, set_read, StopsInTree, RefusesInTree}
+use Rattle.plan_check.specs.Places.{StopsAmong, RefusesInTree}
 
 -- the file begins with what was read, and a line read comes behind it
 pub line_there : (files : Option Files) (name text : List ℕ) (reader : PlanLines) → IsLineRead files name text reader → Begins files name (text ++ fed reader.lines.line)
 line_there files name text reader next = Begins-front files name (text ++ fed reader.lines.line) reader.lines.ahead next.read.given.front
 
--- the tree of the next set's program, and so many lines of the file before it
-pub record IsIn (w : Lists) (program : Contents) (parts : List Part) (tree : List Line) (before : ℕ) (kept : Kept) : Type 0 where
-  pub program_is : program ≡ program_at w parts
-  pub before_is : before ≡ line_count (set_read w parts)
+-- the lines of a tree that were taken, and so many lines of the file before them
+pub record IsIn (program : Contents) (front : List ℕ) (tree : List Line) (before : ℕ) (kept : Kept) : Type 0 where
+  pub before_is : before ≡ line_count front
   pub stands : StandsFor program tree kept
 
-stops : (w : Lists) (files : Option Files) (name : List ℕ) (program : Contents) (parts : List Part) (tree : List Line) (before : ℕ) (kept : Kept) (reader : PlanLines) (fault : CheckFault)
-    → IsIn w program parts tree before kept → IsLineRead files name (begun_plan w parts tree) reader
-    → RefusesInTree program before tree reader.lines.line fault → StopsInTree w files name parts tree fault
-stops w files name program parts tree before kept reader fault here next refuses = record {
-  taken = subst (λ (p : Contents). AreTaken p tree) here.program_is here.stands.taken;
-  met = inr (
-    reader.lines.line,
-    next.line,
-    line_there files name (begun_plan w parts tree) reader next,
-    subst (λ (p : Contents). RefusesInTree p (line_count (set_read w parts)) tree reader.lines.line fault) here.program_is
-        (subst (λ (n : ℕ). RefusesInTree program n tree reader.lines.line fault) here.before_is refuses),
-  );
-}
-
-pub stops_lacking : (w : Lists) (files : Option Files) (name : List ℕ) (program : Contents) (parts : List Part) (tree : List Line) (before : ℕ) (kept : Kept) (fault : CheckFault)
-    → IsIn w program parts tree before kept → Lacks files name (begun_plan w parts tree) fault → StopsInTree w files name parts tree fault
-stops_lacking w files name program parts tree before kept fault here lacks = record {
-  taken = subst (λ (p : Contents). AreTaken p tree) here.program_is here.stands.taken;
+pub stops_lacking : (files : Option Files) (name : List ℕ) (program : Contents) (front : List ℕ) (tree : List Line) (before : ℕ) (kept : Kept) (fault : CheckFault)
+    → IsIn program front tree before kept → Lacks files name (front ++ tree_text tree) fault → StopsAmong program files name front tree fault
+stops_lacking files name program front tree before kept fault here lacks = record {
+  taken = here.stands.taken;
   met = inl lacks;
 }
 
-pub stops_refused : (w : Lists) (files : Option Files) (name : List ℕ) (program : Contents) (parts : List Part) (tree : List Line) (before : ℕ) (kept : Kept) (reader : PlanLines) (fault : CheckFault)
-    → IsIn w program parts tree before kept → IsLineRead files name (begun_plan w parts tree) reader
-    → RefusesInTree program before tree reader.lines.line fault → StopsInTree w files name parts tree fault
-stops_refused w files name program parts tree before kept reader fault here next refuses = stops w files name program parts tree before kept reader fault here next refuses
+pub stops_refused : (files : Option Files) (name : List ℕ) (program : Contents) (front : List ℕ) (tree : List Line) (before : ℕ) (kept : Kept) (reader : PlanLines) (fault : CheckFault)
+    → IsIn program front tree before kept → IsLineRead files name (front ++ tree_text tree) reader
+    → RefusesInTree program before tree reader.lines.line fault → StopsAmong program files name front tree fault
+stops_refused files name program front tree before kept reader fault here next refuses = record {
+  taken = here.stands.taken;
+  met = inr (
+    reader.lines.line,
+    next.line,
+    line_there files name (front ++ tree_text tree) reader next,
+    subst (λ (n : ℕ). RefusesInTree program n tree reader.lines.line fault) here.before_is refuses,
+  );
+}
 
 -- a reader that has read one text has read an equal one
 pub read_as : (files : Option Files) (name a b : List ℕ) (reader : PlanLines) → a ≡ b → HasRead files name a reader → HasRead files name b reader

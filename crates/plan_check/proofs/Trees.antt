@@ -40,16 +40,13 @@ fits_result program tree claimed before (Bounded leaf) told small =
 pub taken_none : (program : Contents) → AreTaken program []
 taken_none program at line is = absurd (cc)
 
--- the text up to a tree's first line
-pub begun-none : (w : Lists) (parts : List Part) → begun_plan w parts [] ≡ set_read w parts
-begun-none w parts = ap (λ (t : List ℕ). parts_read w parts ++ t) (append-nil (set_line w (length parts) (length (program_at w parts).costs)))
+-- the text of a part's tree behind the part's line
+pub begun-is : (w : Lists) (parts : List Part) (tree : List Line) → set_read w parts ++ tree_text tree ≡ begun_plan w parts tree
+begun-is w parts tree = append_assoc (parts_read w parts) (set_line w (length parts) (length (program_at w parts).costs)) (tree_text tree)
 
 -- one more line of a tree
-pub begun-more : (w : Lists) (parts : List Part) (tree : List Line) (node : Line) → begun_plan w parts (tree ++ node ∷ []) ≡ begun_plan w parts tree ++ fed (line_text node)
-begun-more w parts tree node =
-    let first = set_line w (length parts) (length (program_at w parts).costs) in
+pub tree-more : (front : List ℕ) (tree : List Line) (node : Line) → front ++ tree_text (tree ++ node ∷ []) ≡ (front ++ tree_text tree) ++ fed (line_text node)
+tree-more front tree node =
     let last : tree_text (tree ++ node ∷ []) ≡ tree_text tree ++ tree_line node =
     flat_map-append tree_line tree (node ∷ []) ∙ ap (λ (t : List ℕ). tree_text tree ++ t) (append-nil (tree_line node)) in
-    ap (λ (t : List ℕ). parts_read w parts ++ (first ++ t)) last
-    ∙ ap (λ (t : List ℕ). parts_read w parts ++ t) (sym (append_assoc first (tree_text tree) (tree_line node)))
-    ∙ sym (append_assoc (parts_read w parts) (first ++ tree_text tree) (tree_line node))
+    ap (λ (t : List ℕ). front ++ t) last ∙ sym (append_assoc front (tree_text tree) (tree_line node))

@@ -23,7 +23,7 @@ use Rattle.slo_rules.specs.declared.policy_line.PolicyFault.{PolicyFault}
 use Rattle.placement.specs.Placement.{program_of}
 use Rattle.shelf_lines.specs.Lines.{IsLine, fed, Begins}
 use Rattle.plan_text.specs.Parts.{Part}
-use Rattle.plan_text.specs.PlanText.{parts_text, cost_line, set_line}
+use Rattle.plan_text.specs.PlanText.{parts_text, tree_text, cost_line, set_line}
 use Rattle.plan_text.specs.Plans.{EachPart, IsAcceptedPart, begun_plan}
 use Rattle.plan_check.specs.declared.fault.CheckFault.{CheckFault}
 use Rattle.plan_check.specs.declared.fault.CheckFault.TheVariants.{Bad, Refused}
@@ -94,6 +94,11 @@ abbrev pub Meets : Option Files → List ℕ → List ℕ → (List ℕ → Chec
 Meets files name text RefusesLine fault =
     Lacks files name text fault
     ⊎ ((line : List ℕ) × IsLine line × Begins files name (text ++ fed line) × RefusesLine line fault)
+
+-- in a tree of a program, whose first line comes behind a text, these lines were taken, and this is met behind them
+pub record StopsAmong (program : Contents) (files : Option Files) (name front : List ℕ) (tree : List Line) (fault : CheckFault) : Type 0 where
+  pub taken : AreTaken program tree
+  pub met : Meets files name (front ++ tree_text tree) (RefusesInTree program (line_count front) tree) fault
 
 -- in the tree of the next set these lines were taken, and this is met behind them
 pub record StopsInTree (w : Lists) (files : Option Files) (name : List ℕ) (parts : List Part) (tree : List Line) (fault : CheckFault) : Type 0 where

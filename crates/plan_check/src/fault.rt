@@ -65,7 +65,7 @@ pub(crate) fn refuse(fault: CertFault, before: u64, line: u64) -> CheckFault
 }
 
 /// The refusal of a line of a policy.
-pub(crate) fn refuse_policy(fault: PolicyFault, line: u64) -> CheckFault
+pub fn refuse_policy(fault: PolicyFault, line: u64) -> CheckFault
     ensures { result ≡ policy_refusal line fault }
 {
     match fault {

@@ -8,13 +8,20 @@ pub mod laws;
 mod lines;
 mod part;
 mod policy;
+mod policy_lines;
 mod set_word;
 mod told;
 mod tree;
 mod word;
 
 pub use check::check_plan;
-pub use fault::CheckFault;
+pub use fault::{CheckFault, refuse_policy};
+pub use lines::PlanLines;
+pub use part::is_fed;
+pub use policy_lines::read_policy_lines;
+pub use told::{hand_over, is_wanting, say};
+pub use tree::{Claim, read_tree};
+pub use word::{behind, is_number};
 
 #[cfg(test)]
 mod tests;

@@ -13,10 +13,10 @@ const FILE_LIMIT: u64 = 4_294_967_295;
 
 /// Gives the lines of a plan file, one after another, and counts them.
 #[derive(Drop)]
-pub(crate) struct PlanLines {
-    pub(crate) lines: ShelfLines,
+pub struct PlanLines {
+    pub lines: ShelfLines,
     /// The number of the line last given, counted from 1.
-    pub(crate) number: u64,
+    pub number: u64,
     ghost few: { number ≤ lines.given },
     ghost small: { lines.given ≤ 4294967295 },
     ghost line_limit: { lines.line_limit ≡ 1048576 },
@@ -27,7 +27,7 @@ impl PlanLines {
     ghost use Rattle.span_base.specs.Files.{Files};
     ghost use Rattle.plan_check.specs.Reading.{HasRead, ReadsNext, Ends};
 
-    pub(crate) fn make(alloc: Global) -> Result<PlanLines, AllocError>
+    pub fn make(alloc: Global) -> Result<PlanLines, AllocError>
         ensures { IfOk result (λ reader. (files : Option Files) (name : List ℕ) → HasRead files name [] reader) }
     {
         Ok(PlanLines {
@@ -37,14 +37,14 @@ impl PlanLines {
     }
 
     /// The line last given, without its line feed.
-    pub(crate) fn line(&self) -> &[u8]
+    pub fn line(&self) -> &[u8]
         ensures { result.now ≡ self.now.lines.line }
     {
         self.lines.line()
     }
 
     /// Reads the next line, which has to be there.
-    pub(crate) fn next<S: Shelf>(&mut self, shelf: &mut S, name: &str) -> Result<(), CheckFault>
+    pub fn next<S: Shelf>(&mut self, shelf: &mut S, name: &str) -> Result<(), CheckFault>
         ensures reads { (text : List ℕ) → HasRead (S.files shelf.old) name.now text self.old
             → ReadsNext (S.files shelf.old) name.now text self.new result }
         ensures more { OnOk result (self.old.lines.given < self.new.lines.given) }
@@ -88,7 +88,7 @@ impl PlanLines {
     }
 
     /// Makes sure that no byte is left.
-    pub(crate) fn end<S: Shelf>(&mut self, shelf: &mut S, name: &str) -> Result<(), CheckFault>
+    pub fn end<S: Shelf>(&mut self, shelf: &mut S, name: &str) -> Result<(), CheckFault>
         ensures ends { (text : List ℕ) → HasRead (S.files shelf.old) name.now text self.old
             → Ends (S.files shelf.old) name.now text result }
         ensures files_stay { S.files shelf.new ≡ S.files shelf.old }

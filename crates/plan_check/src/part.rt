@@ -18,7 +18,7 @@ use std::alloc::Global;
 use workload::World;
 
 /// Whether a line, with its line feed, is this text.
-pub(crate) fn is_fed(line: &[u8], text: &[u8]) -> bool
+pub fn is_fed(line: &[u8], text: &[u8]) -> bool
     ensures { IsTrue result ↔ (fed line.now ≡ text.now) }
 {
     match text.strip_suffix(b"\n") {

@@ -43,7 +43,7 @@ fn fault_of(fault: DeviceFault) -> CheckFault
 }
 
 /// Whether a fault says nothing of the plan: the sink failed, or memory lacked.
-pub(crate) fn is_wanting(fault: CheckFault) -> bool
+pub fn is_wanting(fault: CheckFault) -> bool
     ensures { result ≡ is_wanting fault }
 {
     match fault {
@@ -54,11 +54,7 @@ pub(crate) fn is_wanting(fault: CheckFault) -> bool
 }
 
 /// Passes a piece on to the sink.
-pub(crate) fn say<K: Sink>(
-    told: &mut SinkBuffer,
-    out: &mut K,
-    piece: &[u8],
-) -> Result<(), CheckFault>
+pub fn say<K: Sink>(told: &mut SinkBuffer, out: &mut K, piece: &[u8]) -> Result<(), CheckFault>
     ensures says { (from : Option (List ℕ)) (text : List ℕ) → IsSaid from (K.taken out.old) told.old text
         → Tells from (K.taken out.new) told.new (text ++ piece.now) result }
 
@@ -94,7 +90,7 @@ pub(crate) fn tell<K: Sink>(
 }
 
 /// Hands all that was said to the sink.
-pub(crate) fn hand_over<K: Sink>(told: &mut SinkBuffer, out: &mut K) -> Result<(), CheckFault>
+pub fn hand_over<K: Sink>(told: &mut SinkBuffer, out: &mut K) -> Result<(), CheckFault>
     ensures hands { (from : Option (List ℕ)) (text : List ℕ) → IsSaid from (K.taken out.old) told.old text
         → HandsOver from (K.taken out.new) text result }
 

@@ -1,13 +1,10 @@
-ghost use Rattle.std.specs.Prelude.{◌≡◌, ◌+◌, ◌-◌, ◌^◌, ◌<◌, ◌≤◌, List, length, IsErrOf};
+ghost use Rattle.std.specs.Prelude.{◌≡◌, ◌+◌, ◌-◌, ◌^◌, ◌<◌, ◌≤◌, ℕ, List, length, IsErrOf};
 ghost use Rattle.span_base.specs.Counts.{Rose};
 ghost use Rattle.bound_cert.specs.declared.leaves.Line.{Line as Node};
 ghost use Rattle.cert_checker.specs.Kept.{StandsFor};
 ghost use Rattle.zero_one.specs.Contents.{Contents};
-ghost use Rattle.workload.specs.World.{Lists};
-ghost use Rattle.plan_text.specs.Parts.{Part};
-ghost use Rattle.plan_check.specs.Places.{program_at, set_read};
 ghost use Rattle.plan_check.specs.Reading.{HasRead};
-ghost use Rattle.plan_check.specs.Parts.{TakesNode, ShowsGoal, ReadsTree};
+ghost use Rattle.plan_check.specs.Parts.{TakesNode, ShowsGoal, ReadsLines};
 
 use crate::fault::{CheckFault, refuse};
 use crate::lines::PlanLines;
@@ -19,12 +16,12 @@ use std::alloc::Global;
 use zero_one::Program;
 
 /// A cost that a result tells and its tree shows to be least.
-#[derive(Clone, Copy)]
-pub(crate) struct Claim {
+#[derive(Clone, Copy, Debug)]
+pub struct Claim {
     /// In pico-dollars.
-    pub(crate) cost: u128,
+    pub cost: u128,
     /// The number of the result's line.
-    pub(crate) line: u64,
+    pub line: u64,
 }
 
 /// Feeds the next line of a tree, which is the file's line `number`; `before` lines come before the
@@ -58,17 +55,17 @@ fn show_goal(checker: &Checker, goal: Goal, before: u64, number: u64) -> Result<
     }
 }
 
-/// Reads the tree of a set and the result behind it: the cost that it shows, or none where it shows
-/// that there is no policy.
-pub(crate) fn read_tree<S: Shelf>(
+/// Reads the tree of a program and the result behind it: the cost that it shows, or none where it
+/// shows that nothing is feasible.
+pub fn read_tree<S: Shelf>(
     alloc: Global,
     program: &Program,
     lines: &mut PlanLines,
     shelf: &mut S,
     name: &str,
 ) -> Result<Option<Claim>, CheckFault>
-    ensures reads { (w : Lists) (parts : List Part) → program.now ≡ program_at w parts → HasRead (S.files shelf.old) name.now (set_read w parts) lines.old
-        → ReadsTree w (S.files shelf.old) name.now parts lines.new result }
+    ensures reads { (front : List ℕ) → HasRead (S.files shelf.old) name.now front lines.old
+        → ReadsLines program.now (S.files shelf.old) name.now front lines.new result }
     ensures files_stay { S.files shelf.new ≡ S.files shelf.old }
 
     ensures faults_stay { S.faults shelf.old ≤ S.faults shelf.new }

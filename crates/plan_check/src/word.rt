@@ -28,14 +28,14 @@ pub(crate) enum Unread {
 }
 
 /// What follows a front of a text, if it begins so.
-pub(crate) fn behind<'a>(text: &'a [u8], front: &[u8]) -> Option<&'a [u8]>
+pub fn behind<'a>(text: &'a [u8], front: &[u8]) -> Option<&'a [u8]>
     ensures { MatchOption result ((rest : List ℕ) → ¬ (text.now ≡ front.now ++ rest)) (λ rest. text.now ≡ front.now ++ rest.now) }
 {
     text.strip_prefix(front)
 }
 
 /// Whether a text is a number of at most 38 digits.
-pub(crate) fn is_number(text: &[u8]) -> bool
+pub fn is_number(text: &[u8]) -> bool
     ensures { IsTrue result ↔ IsNumber text.now }
 {
     read_number(text, u128::MAX).is_ok()

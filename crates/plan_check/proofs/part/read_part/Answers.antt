@@ -7,7 +7,7 @@ use Rattle.zero_one.specs.Program.{IsWithinLimits}
 use Rattle.plan_check.specs.declared.tree.Claim.{Claim}
 use Rattle.plan_check.specs.Places.{program_at}
 use Rattle.plan_check.specs.Parts.{ReadsTree, ReadsPolicy}
-use Rattle.plan_check.proofs.NextParts.{tree_at, policy_at, part_complete, part_none}
+use Rattle.plan_check.proofs.NextParts.{tree_of, tree_at, policy_at, part_complete, part_none}
 use Rattle.plan_check.proofs.part.read_part.Goals as goal
 
 pub returns-in_err-read_set-clause-reads : goal.returns-in_err-read_set-clause-reads
@@ -31,7 +31,7 @@ returns-in_err-claim-clause-reads g c = (λ parts set_is first.
     let fault = c.in_err-claim.field-0.0 in
     let p = err_from_is_err_and c.from_residual-in_err-claim.result c.from_residual-in_err-claim.ensures.1 in
     let stops : ReadsTree w files name parts c.read_tree.new.lines (Err fault) =
-    tree_at w files files_1 name parts c.read_set.new.lines c.read_tree.new.lines (Err fault) same_1 (c.in_err-claim.ensures.reads w parts program_is) read in
+    tree_at w files files_1 name parts c.read_set.new.lines c.read_tree.new.lines (Err fault) same_1 (tree_of w c.in_ok-program.program files_1 name parts c.read_set.new.lines c.read_tree.new.lines (Err fault) program_is c.in_err-claim.ensures.reads) read in
     let limits : IsWithinLimits (program_at w parts) = subst IsWithinLimits program_is c.costs-variables.ensures.within in
     rw (p.1, p.2) (inr (limits, inl stops)))
 
@@ -46,7 +46,7 @@ returns-in_err-read_policy-in-Some-clause-reads g c = (λ parts set_is first.
     let files_1 = g.S.Shelf.files c.read_set.new.shelf in
     let same_1 : files_1 ≡ files = c.in_ok-read_set.ensures.files_stay in
     let found : ReadsTree w files name parts c.read_tree.new.lines (Ok c.in_ok-claim.field-0) =
-    tree_at w files files_1 name parts c.read_set.new.lines c.read_tree.new.lines (Ok c.in_ok-claim.field-0) same_1 (c.in_ok-claim.ensures.reads w parts program_is) read in
+    tree_at w files files_1 name parts c.read_set.new.lines c.read_tree.new.lines (Ok c.in_ok-claim.field-0) same_1 (tree_of w c.in_ok-program.program files_1 name parts c.read_set.new.lines c.read_tree.new.lines (Ok c.in_ok-claim.field-0) program_is c.in_ok-claim.ensures.reads) read in
     let claim = c.in-Some.claim in
     let files_2 = g.S.Shelf.files c.read_tree.new.shelf in
     let same_2 : files_2 ≡ files = c.in_ok-claim.ensures.files_stay ∙ same_1 in
@@ -71,7 +71,7 @@ returns-in-Some-clause-reads g c = (λ parts set_is first.
     let files_1 = g.S.Shelf.files c.read_set.new.shelf in
     let same_1 : files_1 ≡ files = c.in_ok-read_set.ensures.files_stay in
     let found : ReadsTree w files name parts c.read_tree.new.lines (Ok c.in_ok-claim.field-0) =
-    tree_at w files files_1 name parts c.read_set.new.lines c.read_tree.new.lines (Ok c.in_ok-claim.field-0) same_1 (c.in_ok-claim.ensures.reads w parts program_is) read in
+    tree_at w files files_1 name parts c.read_set.new.lines c.read_tree.new.lines (Ok c.in_ok-claim.field-0) same_1 (tree_of w c.in_ok-program.program files_1 name parts c.read_set.new.lines c.read_tree.new.lines (Ok c.in_ok-claim.field-0) program_is c.in_ok-claim.ensures.reads) read in
     let claim = c.in-Some.claim in
     let files_2 = g.S.Shelf.files c.read_tree.new.shelf in
     let same_2 : files_2 ≡ files = c.in_ok-claim.ensures.files_stay ∙ same_1 in
@@ -96,7 +96,7 @@ returns-clause-reads g c = (λ parts set_is first.
     let files_1 = g.S.Shelf.files c.read_set.new.shelf in
     let same_1 : files_1 ≡ files = c.in_ok-read_set.ensures.files_stay in
     let found : ReadsTree w files name parts c.read_tree.new.lines (Ok c.in_ok-claim.field-0) =
-    tree_at w files files_1 name parts c.read_set.new.lines c.read_tree.new.lines (Ok c.in_ok-claim.field-0) same_1 (c.in_ok-claim.ensures.reads w parts program_is) read in
+    tree_at w files files_1 name parts c.read_set.new.lines c.read_tree.new.lines (Ok c.in_ok-claim.field-0) same_1 (tree_of w c.in_ok-program.program files_1 name parts c.read_set.new.lines c.read_tree.new.lines (Ok c.in_ok-claim.field-0) program_is c.in_ok-claim.ensures.reads) read in
     let there = subst (λ (n : ℕ). n < length w.sets) set_is c.requires in
     let known : IsSet w (length parts) = record { complete = c.centre_count-centres.ensures.complete; named = c.centre_count-centres.ensures.named; there = there } in
     let limits : IsWithinLimits (program_at w parts) = subst IsWithinLimits program_is c.costs-variables.ensures.within in
