@@ -1,5 +1,7 @@
 pub mod Asking
 pub mod Coming
+pub mod Doors
+pub mod Endings
 pub mod Fronts
 pub mod Inputs
 pub mod Memory
@@ -7,3 +9,6 @@ pub mod Pieces
 pub mod Requests
 pub mod Service
 pub mod Serving
+pub mod Visits
+pub mod Statuses
+pub mod Words

@@ -48,6 +48,7 @@ impl From<Failed> for NoRequest {
 pub(crate) fn has_more<S: Stream>(input: &mut Input, stream: &mut S) -> Result<bool, Failed>
     ensures more { HasMore (S.coming stream.old) (S.coming stream.new) input.old input.new result }
     ensures taken_stays { S.taken stream.new ≡ S.taken stream.old }
+    ensures around_stays { S.around stream.new ≡ S.around stream.old }
     ensures faults_stay { S.faults stream.old ≤ S.faults stream.new }
     ensures failed { IsTrue (is_err result) → Rose (S.faults stream.old) (S.faults stream.new) }
 {
@@ -68,6 +69,7 @@ pub(crate) fn next_request<S: Stream>(
     requires { 0 < length input.old }
     ensures asks { Asks keys (ahead input.old (S.coming stream.old)) (ahead input.new (S.coming stream.new)) result }
     ensures taken_stays { S.taken stream.new ≡ S.taken stream.old }
+    ensures around_stays { S.around stream.new ≡ S.around stream.old }
     ensures faults_stay { S.faults stream.old ≤ S.faults stream.new }
     ensures failed { IsErrOf result NoRequest.Failed → Rose (S.faults stream.old) (S.faults stream.new) }
 {

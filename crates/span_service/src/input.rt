@@ -64,6 +64,7 @@ impl Input {
         requires { length self.old ≤ 8193 }
         ensures fills { Fills (S.coming stream.old) (S.coming stream.new) self.old self.new result }
         ensures taken_stays { S.taken stream.new ≡ S.taken stream.old }
+        ensures around_stays { S.around stream.new ≡ S.around stream.old }
         ensures faults_stay { S.faults stream.old ≤ S.faults stream.new }
         ensures failed { IsTrue (is_err result) → Rose (S.faults stream.old) (S.faults stream.new) }
     {
@@ -91,6 +92,7 @@ fn refill<S: Stream>(
     ensures fills { Refills (S.coming stream.old) (S.coming stream.new) (drop from (take to bytes.old)) bytes.new (to - from) result }
     ensures kept { take (to - from) bytes.new ≡ drop from (take to bytes.old) }
     ensures taken_stays { S.taken stream.new ≡ S.taken stream.old }
+    ensures around_stays { S.around stream.new ≡ S.around stream.old }
     ensures faults_stay { S.faults stream.old ≤ S.faults stream.new }
     ensures failed { IsTrue (is_err result) → Rose (S.faults stream.old) (S.faults stream.new) }
 {

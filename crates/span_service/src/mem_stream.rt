@@ -54,12 +54,15 @@ impl MemStream {
 impl Stream for MemStream {
     ghost use Rattle.std.specs.Prelude.{Some};
     ghost use Rattle.std.specs.List.{concat};
+    ghost use Rattle.span_service.specs.Doors.{no_door};
 
     ghost coming = { λ s. Some (concat s.left) };
 
     ghost taken = { λ s. Some s.taken };
 
     ghost faults = { λ s. s.calls.faults };
+
+    ghost around = { λ _. no_door };
 
     fn read(&mut self, buf: &mut [u8]) -> Result<usize, Failed>
         requires { 0 < length buf.old }

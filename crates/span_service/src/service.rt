@@ -32,6 +32,7 @@ pub fn serve<T: Taker, S: Stream>(
     ensures ends { Ends keys (T.size taker.new) (record { state = T.state taker.old; coming = S.coming stream.old; taken = S.taken stream.old }) (T.state taker.new) (S.taken stream.new) result }
     ensures number { (T.state taker.new).number ≡ (T.state taker.old).number }
     ensures keys { length (T.state taker.new).kept ≡ length (T.state taker.old).kept }
+    ensures around_stays { S.around stream.new ≡ S.around stream.old }
     ensures faults_stay { S.faults stream.old ≤ S.faults stream.new }
     ensures read_fault { (n : ℕ) → IsErrOf result (ServeFault.ReadFault n) → Rose (S.faults stream.old) (S.faults stream.new) }
     ensures write_fault { (n : ℕ) → IsErrOf result (ServeFault.WriteFault n) → Rose (S.faults stream.old) (S.faults stream.new) }
@@ -75,6 +76,7 @@ fn answer_next<T: Taker, S: Stream>(
     ensures few { IfOk result (λ more. IsTrue more → answered < 1000000) }
     ensures number { (T.state taker.new).number ≡ (T.state taker.old).number }
     ensures keys { length (T.state taker.new).kept ≡ length (T.state taker.old).kept }
+    ensures around_stays { S.around stream.new ≡ S.around stream.old }
     ensures faults_stay { S.faults stream.old ≤ S.faults stream.new }
     ensures read_fault { (n : ℕ) → IsErrOf result (ServeFault.ReadFault n) → Rose (S.faults stream.old) (S.faults stream.new) }
     ensures write_fault { (n : ℕ) → IsErrOf result (ServeFault.WriteFault n) → Rose (S.faults stream.old) (S.faults stream.new) }

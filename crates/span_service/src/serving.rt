@@ -26,6 +26,7 @@ pub(crate) fn is_more<S: Stream>(
 ) -> Result<bool, ServeFault>
     ensures more { TellsMore (S.coming stream.old) (S.coming stream.new) input.old input.new answered result }
     ensures taken_stays { S.taken stream.new ≡ S.taken stream.old }
+    ensures around_stays { S.around stream.new ≡ S.around stream.old }
     ensures faults_stay { S.faults stream.old ≤ S.faults stream.new }
     ensures failed { (n : ℕ) → IsErrOf result (ServeFault.ReadFault n) → Rose (S.faults stream.old) (S.faults stream.new) }
 {
@@ -47,6 +48,7 @@ pub(crate) fn ask<S: Stream>(
     requires few { answered < 1000000 }
     ensures asks { AsksNext keys (ahead input.old (S.coming stream.old)) (ahead input.new (S.coming stream.new)) answered result }
     ensures taken_stays { S.taken stream.new ≡ S.taken stream.old }
+    ensures around_stays { S.around stream.new ≡ S.around stream.old }
     ensures faults_stay { S.faults stream.old ≤ S.faults stream.new }
     ensures failed { (n : ℕ) → IsErrOf result (ServeFault.ReadFault n) → Rose (S.faults stream.old) (S.faults stream.new) }
 {
@@ -74,6 +76,7 @@ pub(crate) fn reply<T: Taker, S: Stream>(
     ensures replies { Replies (T.size taker.new) (T.state taker.old) (T.state taker.new) (S.taken stream.old) (S.taken stream.new) request.now answered result }
     ensures coming_stays { S.coming stream.new ≡ S.coming stream.old }
     ensures keys { length (T.state taker.new).kept ≡ length (T.state taker.old).kept }
+    ensures around_stays { S.around stream.new ≡ S.around stream.old }
     ensures faults_stay { S.faults stream.old ≤ S.faults stream.new }
     ensures failed { (n : ℕ) → IsErrOf result (ServeFault.WriteFault n) → Rose (S.faults stream.old) (S.faults stream.new) }
     ensures disk_faults_stay { T.faults taker.old ≤ T.faults taker.new }

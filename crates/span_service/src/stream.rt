@@ -2,6 +2,7 @@ ghost use Rattle.std.specs.Prelude.{◌≡◌, ◌<◌, ◌≤◌, ℕ, List, Op
 ghost use Rattle.span_base.specs.Counts.{Rose};
 ghost use Rattle.span_base.specs.Taken.{Takes};
 ghost use Rattle.span_service.specs.Coming.{Gives};
+ghost use Rattle.span_service.specs.Doors.{Around};
 
 use replica_journal::Failed;
 use span_base::DeviceFault;
@@ -17,6 +18,9 @@ pub trait Stream {
     /// How often it failed. It stands still at the end of a `u64`.
     ghost faults: { Self → ℕ };
 
+    /// What a door has around its present connection: no read or write changes it.
+    ghost around: { Self → Around };
+
     /// Reads bytes into the front of `buf`, and answers how many. None are the stream's end. What
     /// `buf` holds behind them is left open.
     fn read(&mut self, buf: &mut [u8]) -> Result<usize, Failed>
@@ -25,6 +29,7 @@ pub trait Stream {
         ensures within { IfOk result (λ n. n ≤ length buf.new) }
         ensures gives { Gives (coming self.old) (coming self.new) buf.new result }
         ensures taken_stays { taken self.new ≡ taken self.old }
+        ensures around_stays { around self.new ≡ around self.old }
 
         ensures faults_stay { faults self.old ≤ faults self.new }
         ensures failed { IsTrue (is_err result) → Rose (faults self.old) (faults self.new) };
@@ -37,6 +42,7 @@ pub trait Stream {
         ensures some { IfOk result (λ n. (1 ≤ n) × (n ≤ length piece.now)) }
         ensures takes { Takes (taken self.old) (taken self.new) piece.now result }
         ensures coming_stays { coming self.new ≡ coming self.old }
+        ensures around_stays { around self.new ≡ around self.old }
 
         ensures faults_stay { faults self.old ≤ faults self.new }
         ensures failed { IsErrOf result DeviceFault.Failed → Rose (faults self.old) (faults self.new) }

@@ -11,6 +11,7 @@ pub fn write_whole<S: Stream>(stream: &mut S, piece: &[u8]) -> Result<(), Device
     ensures front { OnErr result (AppendsFront (S.taken stream.old) (S.taken stream.new) piece.now) }
     ensures coming_stays { S.coming stream.new ≡ S.coming stream.old }
 
+    ensures around_stays { S.around stream.new ≡ S.around stream.old }
     ensures faults_stay { S.faults stream.old ≤ S.faults stream.new }
     ensures failed { IsErrOf result DeviceFault.Failed → Rose (S.faults stream.old) (S.faults stream.new) }
 {

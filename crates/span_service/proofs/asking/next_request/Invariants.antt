@@ -7,6 +7,7 @@ invariant-loop-message g l = record {
   some : 0 < length l.input;
   same : ahead l.input (g.S.Stream.coming l.stream) ≡ ahead l.initial.input (g.S.Stream.coming l.initial.stream);
   taken_stays : g.S.Stream.taken l.stream ≡ g.S.Stream.taken l.initial.stream;
+  around_stays : g.S.Stream.around l.stream ≡ g.S.Stream.around l.initial.stream;
   faults_stay : g.S.Stream.faults l.initial.stream ≤ g.S.Stream.faults l.stream;
 }
 

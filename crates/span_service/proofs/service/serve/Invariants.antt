@@ -10,6 +10,7 @@ invariant-loop-answer g l = record {
   few : l.answered ≤ 1000000;
   number : (g.T.Taker.state l.taker).number ≡ (g.T.Taker.state l.initial.taker).number;
   kept : length (g.T.Taker.state l.taker).kept ≡ length (g.T.Taker.state l.initial.taker).kept;
+  around_stays : g.S.Stream.around l.stream ≡ g.S.Stream.around l.initial.stream;
   faults_stay : g.S.Stream.faults l.initial.stream ≤ g.S.Stream.faults l.stream;
   disk_faults_stay : g.T.Taker.faults l.initial.taker ≤ g.T.Taker.faults l.taker;
   shut : g.T.Taker.shut l.taker ≡ g.T.Taker.shut l.initial.taker;

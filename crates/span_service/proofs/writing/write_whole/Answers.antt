@@ -7,5 +7,6 @@ loop-written-preserved g c = record {
   within = search rules;
   so_far = Appends-take _ _ _ _ _ _ c.loop-written.invariant.so_far c.in_ok-written.ensures.takes;
   coming_stays = search rules;
+  around_stays = search rules;
   faults_stay = search rules;
 }

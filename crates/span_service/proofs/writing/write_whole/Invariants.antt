@@ -7,6 +7,7 @@ invariant-loop-written g l = record {
   within : l.written ≤ length l.piece;
   so_far : Appends (g.S.Stream.taken l.initial.stream) (g.S.Stream.taken l.stream) (take l.written l.piece);
   coming_stays : g.S.Stream.coming l.stream ≡ g.S.Stream.coming l.initial.stream;
+  around_stays : g.S.Stream.around l.stream ≡ g.S.Stream.around l.initial.stream;
   faults_stay : g.S.Stream.faults l.initial.stream ≤ g.S.Stream.faults l.stream;
 }
 
