@@ -10,7 +10,6 @@ mod file_shelf;
 #[cfg(test)]
 mod loop_tests;
 mod progress;
-mod std_sink;
 mod words;
 
 use file_shelf::FileShelf;

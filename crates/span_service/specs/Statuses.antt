@@ -1,5 +1,5 @@
 -- How the serving of a replica ends.
-use Rattle.std.specs.Prelude.{ℕ, ◌≡◌, ⊤, List, ◌++◌, length, Option, Some, None}
+use Rattle.std.specs.Prelude.{ℕ, ◌≡◌, ◌⊎◌, ⊤, List, ◌++◌, length, Option, Some, None}
 use Rattle.span_base.specs.Taken.{Appends}
 use Rattle.wire_msg.specs.declared.message.Message.{Message}
 use Rattle.replica_core.specs.Rule.{State, opening_state}
@@ -12,6 +12,7 @@ use Rattle.span_service.specs.declared.serve_status.ServeStatus.TheVariants as s
 use Rattle.span_service.specs.declared.visit_fault.VisitFault.{VisitFault}
 use Rattle.span_service.specs.declared.visit_fault.VisitFault.TheVariants as visit
 use Rattle.span_service.specs.declared.plan.Plan.{Plan}
+use Rattle.span_service.specs.Words.{plan_of}
 use Rattle.span_service.specs.Visits.{Scene, AreVisited, opening_line}
 
 -- the number with which the program ends
@@ -78,3 +79,11 @@ abbrev pub IsDamaged : Option Plan → Option History → ℕ → Type 0
 IsDamaged None disk at = ⊥
 IsDamaged (Some plan) None at = ⊤
 IsDamaged (Some plan) (Some history) at = IsDamagedAt plan.keys (bytes_of history) at
+
+-- a run of these words ends with this number: that of a status which is `Usage` only where the words are of another
+-- form, and always there unless memory was wanting
+pub record RunEnds (words : List (List ℕ)) (code : ℕ) : Type 0 where
+  pub answer : ServeStatus
+  pub code_is : code ≡ code_of answer
+  pub usage : answer ≡ status.Usage → plan_of words ≡ None
+  pub strange : plan_of words ≡ None → (answer ≡ status.Usage) ⊎ (answer ≡ status.NoMemory)

@@ -26,7 +26,7 @@ pub use mem_stream::MemStream;
 pub use plan::port_of;
 pub use replica_service::{Served, serve_all};
 pub use serve_fault::ServeFault;
-pub use serve_status::ServeStatus;
+pub use serve_status::{ServeStatus, ServeStatusLine};
 pub use service::serve;
 pub use stream::Stream;
 pub use writing::write_whole;

@@ -42,6 +42,27 @@ impl ServeStatus {
             ServeStatus::Full { .. } => 20,
         }
     }
+
+    /// What the program writes on standard error: nothing at `Done`, else one line.
+    pub fn line(&self) -> ServeStatusLine<'_> {
+        ServeStatusLine { status: self }
+    }
+}
+
+/// What the program writes on standard error where it ends so: nothing at `Done`, else
+/// `span_replica: `, the status, and a line feed.
+#[derive(Clone, Copy, Debug)]
+pub struct ServeStatusLine<'a> {
+    status: &'a ServeStatus,
+}
+
+impl fmt::Display for ServeStatusLine<'_> {
+    fn fmt<W: fmt::Write>(&self, f: &mut fmt::Formatter<W>) -> fmt::Result {
+        match self.status {
+            ServeStatus::Done => Ok(()),
+            status => write!(f, "span_replica: {status}\n"),
+        }
+    }
 }
 
 /// The status's name and its fields in order, each after one space.
