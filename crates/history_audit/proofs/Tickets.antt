@@ -13,14 +13,14 @@ use Rattle.run_marks.specs.declared.mark.Mark.{Mark}
 use Rattle.run_marks.specs.declared.mark.Mark.TheVariants as k
 use Rattle.run_marks.specs.History.{is_same_call}
 use Rattle.register_order.specs.Form.{draws, IsOpen, IsNextTicket}
-use Rattle.register_order.proofs.Tests.{call_is_itself}
+use Rattle.register_order.specs.Order.{is_same_stamp}
+use Rattle.register_order.proofs.Tests.{call_is_itself, same_stamp, stamp_is_itself}
 use Rattle.register_order.proofs.Stamps.{IsAtMost-same, IsAtMost-from_above, above_from_at_most}
 use Rattle.history_audit.specs.declared.calls.CallState.{CallState}
 use Rattle.history_audit.specs.declared.calls.Ending.TheVariants.{Open}
 use Rattle.history_audit.specs.declared.fault.Clause.{Clause}
 use Rattle.history_audit.specs.declared.fault.Clause.TheVariants as clause
 use Rattle.history_audit.specs.Calls.{drawing}
-use Rattle.history_audit.specs.Tables.{is_stamp}
 use Rattle.history_audit.specs.Judged.{IsNext, IsAboveLast, TicketBreaks}
 use Rattle.history_audit.specs.Told.{HasLatest, IsTold, Tells, KeepsFirst}
 use Rattle.history_audit.specs.Judging.{BreaksFirst}
@@ -86,24 +86,18 @@ ticket_is_of_call call stamp = record {
     not_other : (other : Call) → is_same_call call other ≡ false → call ≡ other → ⊥
     not_other other apart same = let e = subst (λ (c : Call). is_same_call call c ≡ true) same (call_is_itself call) in cc (e, apart)
 
-same_fields : (a b : Stamp) → is_stamp a b ≡ true → a ≡ b
-same_fields a b h = grind (arith, common_steps)
-
-is_itself : (a : Stamp) → is_stamp a a ≡ true
-is_itself a = grind (arith, common_steps)
-
 tickets_after : (marks : List Mark) (call : Call) (stamp : Stamp) (kept : Call → Option CallState) (last : ℕ → ℕ) (drawn after : Stamp → Bool) → (stamp.proxy ≡ call.proxy) × (stamp.seq ≡ call.seq) × (1 ≤ stamp.number)
-    → Tells marks kept last drawn → ((other : Stamp) → after other ≡ cond (is_stamp stamp other) true (drawn other)) → TicketsAre (more marks (k.Ticket call stamp)) after
+    → Tells marks kept last drawn → ((other : Stamp) → after other ≡ cond (is_same_stamp stamp other) true (drawn other)) → TicketsAre (more marks (k.Ticket call stamp)) after
 tickets_after marks call stamp kept last drawn after own h is = record { was = was; drawn_is = drawn_is; own = owned }
   where
     ticket_in : (other : Call) (one : Stamp) → k.Ticket call stamp ≡ k.Ticket other one → (call ≡ other) × (stamp ≡ one)
     ticket_in other one e = (cc, cc)
 
     was : (one : Stamp) → after one ≡ true → (c : Call) × Contains (more marks (k.Ticket call stamp)) (k.Ticket c one)
-    was one yes_ = by_test (is_stamp stamp one) refl
+    was one yes_ = by_test (is_same_stamp stamp one) refl
       where
-        by_test : (b : Bool) → is_stamp stamp one ≡ b → (c : Call) × Contains (more marks (k.Ticket call stamp)) (k.Ticket c one)
-        by_test true same = (call, subst (λ (s : Stamp). Contains (more marks (k.Ticket call stamp)) (k.Ticket call s)) (same_fields stamp one same) (Contains-push marks (k.Ticket call stamp)))
+        by_test : (b : Bool) → is_same_stamp stamp one ≡ b → (c : Call) × Contains (more marks (k.Ticket call stamp)) (k.Ticket c one)
+        by_test true same = (call, subst (λ (s : Stamp). Contains (more marks (k.Ticket call stamp)) (k.Ticket call s)) (same_stamp stamp one same) (Contains-push marks (k.Ticket call stamp)))
         by_test false same =
             let e = subst (λ (b : Bool). after one ≡ cond b true (drawn one)) same (is one) in
             let it = h.was one (sym e ∙ yes_) in
@@ -111,10 +105,10 @@ tickets_after marks call stamp kept last drawn after own h is = record { was = w
 
     drawn_is : (c : Call) (one : Stamp) → Contains (more marks (k.Ticket call stamp)) (k.Ticket c one) → after one ≡ true
     drawn_is c one there = elim (Contains-push_cases marks (k.Ticket call stamp) (k.Ticket c one) there) as (λ _. after one ≡ true) [
-      | inl old ↦ is one ∙ by_test (is_stamp stamp one) (h.drawn_is c one old)
+      | inl old ↦ is one ∙ by_test (is_same_stamp stamp one) (h.drawn_is c one old)
       | inr new ↦
           let same = (ticket_in c one new).1 in
-          let e = subst (λ (s : Stamp). is_stamp stamp s ≡ true) same (is_itself stamp) in
+          let e = subst (λ (s : Stamp). is_same_stamp stamp s ≡ true) same (stamp_is_itself stamp) in
           subst (λ (b : Bool). after one ≡ cond b true (drawn one)) e (is one)
     ]
       where
@@ -131,7 +125,7 @@ tickets_after marks call stamp kept last drawn after own h is = record { was = w
     ]
 
 pub tells_after_ticket : (marks : List Mark) (call : Call) (state : CallState) (stamp : Stamp) (old new : Call → Option CallState) (last : ℕ → ℕ) (drawn after : Stamp → Bool)
-    → old call ≡ Some state → IsNext state.latest call stamp → Changes call (drawing stamp) old new → ((other : Stamp) → after other ≡ cond (is_stamp stamp other) true (drawn other)) → Tells marks old last drawn
+    → old call ≡ Some state → IsNext state.latest call stamp → Changes call (drawing stamp) old new → ((other : Stamp) → after other ≡ cond (is_same_stamp stamp other) true (drawn other)) → Tells marks old last drawn
     → Tells (more marks (k.Ticket call stamp)) new last after
 tells_after_ticket marks call state stamp old new last drawn after at next is tickets h =
     tells_after_line marks (k.Ticket call stamp) call state (drawing stamp) old new last drawn after (ticket_is_of_call call stamp) (λ s. refl) (λ s. refl) is at told (tickets_after marks call stamp old last drawn after (next.proxy, next.seq, next.number) h tickets) h

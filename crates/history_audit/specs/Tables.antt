@@ -1,9 +1,9 @@
 -- What is kept of proxies, tickets and keys.
-use Rattle.std.specs.Prelude.{ℕ, ◌==◌, Bool, ◌&&◌, is_some, unwrap_or}
+use Rattle.std.specs.Prelude.{ℕ, ◌==◌, Bool, is_some, unwrap_or}
+use Rattle.std.specs.BTreeSet.{contains}
 use Rattle.indexmap.specs.IndexMap.{get_by}
-use Rattle.indexmap.specs.IndexSet.{contains_by}
 use Rattle.ticket_rules.specs.declared.stamp.Stamp.{Stamp}
-use Rattle.ticket_rules.specs.Stamp.{stamp_zero}
+use Rattle.ticket_rules.specs.Stamp.{stamp_cmp, stamp_zero}
 use Rattle.history_audit.specs.declared.tables.LastCalls.{LastCalls}
 use Rattle.history_audit.specs.declared.tables.Tickets.{Tickets}
 use Rattle.history_audit.specs.declared.tables.Tops.{Tops}
@@ -12,13 +12,9 @@ use Rattle.history_audit.specs.declared.tables.Tops.{Tops}
 abbrev pub last_of : LastCalls → ℕ → ℕ
 last_of table proxy = unwrap_or (get_by (λ at. proxy == at) table.by_proxy) 0
 
--- the two are one stamp, field by field
-abbrev pub is_stamp : Stamp → Stamp → Bool
-is_stamp a b = (a.epoch == b.epoch) && ((a.number == b.number) && ((a.proxy == b.proxy) && (a.seq == b.seq)))
-
 -- the ticket was drawn
 abbrev pub was_drawn : Tickets → Stamp → Bool
-was_drawn table stamp = contains_by (is_stamp stamp) table.drawn
+was_drawn table stamp = contains stamp_cmp table.drawn stamp
 
 -- a read or a write of the key has begun
 abbrev pub has_key : Tops → ℕ → Bool

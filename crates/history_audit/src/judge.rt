@@ -22,10 +22,11 @@ use crate::form::{
 };
 use crate::summary::Summary;
 use crate::tables::{LastCalls, Tickets, Tops};
-use indexmap::{IndexMap, IndexSet};
+use indexmap::IndexMap;
 use run_marks::{Mark, Work};
 use span_base::{Call, KeyId, Value};
 use std::alloc::{AllocError, Global};
+use std::collections::BTreeSet;
 use ticket_rules::Stamp;
 use wire_msg::Reply;
 
@@ -54,7 +55,7 @@ impl Judge {
                 by_proxy: IndexMap::new(alloc),
             },
             tickets: Tickets {
-                drawn: IndexSet::new(alloc),
+                drawn: BTreeSet::new(alloc),
             },
             tops: Tops {
                 by_key: IndexMap::new(alloc),

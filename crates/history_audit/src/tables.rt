@@ -2,11 +2,13 @@
 
 ghost use Rattle.std.specs.Prelude.{◌≡◌, ℕ, ◌==◌, OnOk, cond, true, length};
 ghost use Rattle.ticket_rules.specs.Stamp.{greater};
-ghost use Rattle.history_audit.specs.Tables.{has_key, is_stamp, last_of, top_at, was_drawn};
+ghost use Rattle.register_order.specs.Order.{is_same_stamp};
+ghost use Rattle.history_audit.specs.Tables.{has_key, last_of, top_at, was_drawn};
 
-use indexmap::{IndexMap, IndexSet};
+use indexmap::IndexMap;
 use span_base::KeyId;
 use std::alloc::AllocError;
+use std::collections::BTreeSet;
 use ticket_rules::{Stamp, greater};
 
 /// The number of the last call of each proxy.
@@ -37,10 +39,11 @@ impl LastCalls {
     }
 }
 
-/// The tickets that were drawn. Each tells its call.
+/// The tickets that were drawn. Each tells its call. They are kept in order: whoever writes a log
+/// chooses them, and could choose such as share the place of a hash table.
 #[derive(Debug, Drop)]
 pub(crate) struct Tickets {
-    pub(crate) drawn: IndexSet<Stamp>,
+    pub(crate) drawn: BTreeSet<Stamp>,
 }
 
 impl Tickets {
@@ -53,7 +56,7 @@ impl Tickets {
 
     /// One more ticket is drawn.
     pub(crate) fn add(&mut self, stamp: Stamp) -> Result<(), AllocError>
-        ensures { OnOk result ((other : Stamp) → was_drawn self.new other ≡ cond (is_stamp stamp other) true (was_drawn self.old other)) }
+        ensures { OnOk result ((other : Stamp) → was_drawn self.new other ≡ cond (is_same_stamp stamp other) true (was_drawn self.old other)) }
     {
         match self.drawn.insert(stamp) {
             Ok(_) => Ok(()),
