@@ -85,7 +85,10 @@ fn read_file(
 
 fn open_at(rt: &HostRuntime, name: &str, at: u64) -> io::Result<OpenFile> {
     let mut file = File::open(rt, name)?;
-    file.seek(SeekFrom::Start(at))?;
+    // A pipe can be read from its front, but has no place to go to.
+    if at > 0 {
+        file.seek(SeekFrom::Start(at))?;
+    }
     Ok(OpenFile {
         name: String::from_str(rt.alloc(), name)?,
         file,
