@@ -1,6 +1,6 @@
 -- Reads and writes begin on strong keys alone, so no call reads or writes a key that isn't one.
-use Rattle.std.proofs.Common.{◌≡◌, inl, inr, ℕ, ◌<◌, ◌≤◌, Bool, true, false, List, [], ◌++◌, refl, sym, ap, ◌∙◌, subst, arith, nat_lt, length, map, Contains}
-use Rattle.register_law.proofs.Words.{Call, KeyId, is_strong, latest, history_of, is_register_work, Mark, Work, CallsAgree, IsStrongKey, Store, key_set, opening, Happening, fits_mode, is_strong_key, Header, Happened, common_steps, length-map, Contains-append_cases, none_among}
+use Rattle.std.proofs.Common.{◌≡◌, inl, inr, ℕ, ◌<◌, ◌≤◌, Bool, true, false, List, [], ◌++◌, refl, sym, ap, ◌∙◌, subst, arith, nat_lt, length, map, Contains, ltb-true}
+use Rattle.register_law.proofs.Words.{Call, KeyId, is_strong, latest, history_of, is_register_work, Mark, Work, CallsAgree, IsStrongKey, Store, key_set, opening, Happening, fits_mode, is_strong_key, Header, Happened, common_steps, length-map, Contains-append_cases, none_among, same_key}
 use Rattle.run_marks.specs.declared.mark.Work.TheVariants as w
 use Rattle.run_marks.specs.declared.mark.Mark.TheVariants as k
 use Rattle.register_order.proofs.NoCalls.{untouched_calls_agree}
@@ -8,7 +8,6 @@ use Rattle.register_law.proofs.Growth.{directory_grows, policy_stays}
 use Rattle.register_law.proofs.Opening.{policy_is}
 use Rattle.register_law.proofs.EndsBegun.{new_begin}
 use Rattle.audit_law.proofs.Asked.{IsAskedFor, BeginsRightly}
-use Rattle.register_law.proofs.Basics.{same_key, less_is}
 
 pub record ModesAreKept (header : Header) (s : Store) (marks : List Mark) : Type 0 where
   pub some : 1 ≤ latest s.directory
@@ -62,7 +61,7 @@ pub all_keys_agree : (header : Header) (s : Store) (marks : List Mark) → Modes
 all_keys_agree header s marks m strong key = by (is_strong_key s (record { 0 = key })) refl (nat_lt key (length s.directory.sets)) refl
   where
     by : (b : Bool) → is_strong_key s (record { 0 = key }) ≡ b → (c : Bool) → nat_lt key (length s.directory.sets) ≡ c → CallsAgree (history_of key marks)
-    by true is true known = strong (record { 0 = key }) (m.modes (record { 0 = key }) (less_is key (length s.directory.sets) known) is)
+    by true is true known = strong (record { 0 = key }) (m.modes (record { 0 = key }) (ltb-true key (length s.directory.sets) known) is)
     by true is false unknown = untouched_calls_agree key marks (λ call other work c same register.
         not_below key (length s.directory.sets) unknown (subst (λ (n : ℕ). n < length s.directory.sets) same (m.works call other work c).known))
     by false is c known = untouched_calls_agree key marks (λ call other work c same register.

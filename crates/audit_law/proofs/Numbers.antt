@@ -1,10 +1,11 @@
 -- The last number of a proxy's calls in the log is how many calls it began.
-use Rattle.std.proofs.Common.{◌≡◌, ℕ, ◌<◌, Bool, true, false, List, [], ◌∷◌, ◌++◌, refl, sym, ap, ◌∙◌, subst, ◌==◌, if◌then◌else◌, length, Option, None, fold, Some}
+use Rattle.std.proofs.Common.{◌≡◌, ℕ, ◌<◌, Bool, true, false, List, [], ◌∷◌, ◌++◌, refl, sym, ap, ◌∙◌, subst, ◌==◌, if◌then◌else◌, length, Option, None, fold, Some, eqb-true}
+use Rattle.std.proofs.lemmas.Bool.{eqb-false}
 use Rattle.std.proofs.lemmas.List.Sums.{fold-append}
 use Rattle.register_law.proofs.Words.{Call, Stamp, Reply, Mark, last_seq, draws_ticket, Proxy, Store, proxy_at, Happening, end_marks, ticket_marks, with_proxy, Happened, call_took, gave_up, next_call, proxy_learned, proxy_stopped, refused_at_once, started}
 use Rattle.run_marks.specs.declared.mark.Mark.TheVariants as k
 use Rattle.register_order.specs.Form.{seq_after}
-use Rattle.register_law.proofs.Basics.{apart_is, equal_is, is_made}
+use Rattle.register_law.proofs.Basics.{is_made}
 use Rattle.register_law.proofs.TagsCalls.{proxy_cases, proxy_is}
 
 abbrev pub NumbersAre : Store → List Mark → Type 0
@@ -19,8 +20,8 @@ begun_next : (s : Store) (p q : ℕ) (new : Proxy) (last : ℕ) → p < length s
 begun_next s p q new last lt was = by (p == q) refl
   where
     by : (b : Bool) → (p == q) ≡ b → (if b then new.begun else last) ≡ (proxy_at (with_proxy s p new) q).begun
-    by true e = subst (λ (n : ℕ). new.begun ≡ (proxy_at (with_proxy s p new) n).begun) (equal_is p q e) (ap (λ (x : Proxy). x.begun) (sym (proxy_is s p new lt)))
-    by false e = was ∙ proxy_cases s p q new (λ (x : Proxy). (proxy_at s q).begun ≡ x.begun) refl (λ same. absurd (apart_is p q e (sym same)))
+    by true e = subst (λ (n : ℕ). new.begun ≡ (proxy_at (with_proxy s p new) n).begun) (eqb-true p q e) (ap (λ (x : Proxy). x.begun) (sym (proxy_is s p new lt)))
+    by false e = was ∙ proxy_cases s p q new (λ (x : Proxy). (proxy_at s q).begun ≡ x.begun) refl (λ same. absurd (eqb-false p q e (sym same)))
 
 ticket_passes : (q last : ℕ) (call : Call) (stamp : Stamp) (b : Bool) → fold (seq_after q) last (if b then k.Ticket call stamp ∷ [] else []) ≡ last
 ticket_passes q last call stamp true = refl

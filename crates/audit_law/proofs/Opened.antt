@@ -1,13 +1,12 @@
 -- A call that begins does what was asked for, under the ticket that its proxy drew, its only one.
 use Rattle.std.proofs.Common.{◌≡◌, ◌⊎◌, inl, inr, ℕ, Bool, true, false, List, [], ◌∷◌, ◌++◌, refl, sym, ap, subst, arith, if◌then◌else◌, Contains}
-use Rattle.register_law.proofs.Words.{Call, DcId, KeyId, IsAtMost, Stamp, View, Tag, Leg, StrongWork, ToRead, ToWrite, Doing, Mark, Work, IsLatestTicket, Taken, tag_of_call, draws_ticket, LiveCall, Eventual, EventualMove, Strong, StrongMove, IsWork, Contains-append_right, Contains-append_cases}
+use Rattle.register_law.proofs.Words.{Call, DcId, KeyId, IsAtMost, Stamp, View, Tag, Leg, StrongWork, ToRead, ToWrite, Doing, Mark, Work, IsLatestTicket, Taken, tag_of_call, draws_ticket, LiveCall, Eventual, EventualMove, Strong, StrongMove, IsWork, Contains-append_right, Contains-append_cases, IsAtMost-refl}
 use Rattle.relay_proxy.specs.declared.stage.Stage.TheVariants as doing
 use Rattle.run_marks.specs.declared.mark.Work.TheVariants as w
 use Rattle.run_marks.specs.declared.mark.Mark.TheVariants as k
 use Rattle.register_order.proofs.AfterBegin.{IsNew}
 use Rattle.world_core.specs.Starting.{ticket_marks}
-use Rattle.register_law.proofs.CallsRows.{OpensAs, opens_read, opens_write, opens_move, opens_get, opens_put, opens_eventual_move}
-use Rattle.register_law.proofs.Growth.{at_most_itself}
+use Rattle.register_law.proofs.CallsRows.{OpensAs, opens_write, opens_get, opens_put, opens_get_any}
 use Rattle.register_law.proofs.CallsLive.{start_tickets}
 use Rattle.audit_law.specs.Live.{Does, EventualDoes, HasLatest, StrongLatest, EventualLatest}
 
@@ -27,13 +26,12 @@ IsBegun asked ticket (Eventual call) = EventualBegun call.stage asked ticket
 IsBegun asked ticket (StrongMove call) = asked ≡ w.Move
 IsBegun asked ticket (EventualMove call) = asked ≡ w.Move
 
-pub call_begun : (strongly : Bool) (tag : Tag) (at : DcId) (view : View) (ticket : Stamp) (work : Work) (taken : Taken) → ticket.epoch ≡ view.epoch → OpensAs strongly tag at view ticket work taken → IsBegun work ticket taken.state
-call_begun strongly tag at view ticket work taken epoch (opens_read _ _ work_is _ is) = subst (λ (x : Taken). IsBegun work ticket x.state) (sym is) work_is
-call_begun strongly tag at view ticket work taken epoch (opens_write _ _ _ work_is _ is) = subst (λ (x : Taken). IsBegun work ticket x.state) (sym is) (work_is, refl, epoch)
-call_begun strongly tag at view ticket work taken epoch (opens_move _ work_is is) = subst (λ (x : Taken). IsBegun work ticket x.state) (sym is) work_is
-call_begun strongly tag at view ticket work taken epoch (opens_get _ _ work_is is) = subst (λ (x : Taken). IsBegun work ticket x.state) (sym is) work_is
-call_begun strongly tag at view ticket work taken epoch (opens_put value _ work_is is) = subst (λ (x : Taken). IsBegun work ticket x.state) (sym is) ((value, work_is), refl)
-call_begun strongly tag at view ticket work taken epoch (opens_eventual_move _ work_is is) = subst (λ (x : Taken). IsBegun work ticket x.state) (sym is) work_is
+pub call_begun : (tag : Tag) (at : DcId) (view : View) (ticket : Stamp) (strongly : Bool) (work : Work) (taken : Taken) → ticket.epoch ≡ view.epoch → OpensAs tag at view ticket strongly work taken → IsBegun work ticket taken.state
+call_begun tag at view ticket strongly work taken epoch (opens_write member value of) = (refl, refl, epoch)
+call_begun tag at view ticket strongly work taken epoch opens_get = inl refl
+call_begun tag at view ticket strongly work taken epoch opens_get_any = inr refl
+call_begun tag at view ticket strongly work taken epoch (opens_put value) = ((value, refl), refl)
+call_begun tag at view ticket strongly work taken epoch _ = refl
 
 -- it does the work
 pub begun_does : (asked : Work) (ticket : Stamp) (call : LiveCall) → IsBegun asked ticket call → Does call asked
@@ -59,7 +57,7 @@ only_ticket marks call key asked ticket new draws =
       drawn = Contains-append_right marks (k.Begin call key asked ∷ ticket_marks call ticket asked) (k.Ticket call ticket) here;
       latest = λ earlier c. elim (Contains-append_cases marks (k.Begin call key asked ∷ ticket_marks call ticket asked) (k.Ticket call earlier) c) as (λ _. IsAtMost earlier ticket) [
         | inl old ↦ absurd (new (k.Ticket call earlier) old refl)
-        | inr is ↦ subst (λ (x : Stamp). IsAtMost x ticket) (start_tickets call call key asked ticket earlier is).0 (at_most_itself ticket)
+        | inr is ↦ subst (λ (x : Stamp). IsAtMost x ticket) (start_tickets call call key asked ticket earlier is).0 (IsAtMost-refl ticket)
       ];
     }
   where

@@ -1,15 +1,14 @@
 -- The tickets of a call rise, and the one that it has stays its latest.
 use Rattle.std.proofs.Common.{◌≡◌, inl, inr, ℕ, ◌<◌, true, List, ◌++◌, refl, sym, ap, ◌∙◌, subst, arith, Option, Some, None, Contains}
-use Rattle.register_law.proofs.Words.{Call, IsAbove, IsAtMost, Stamp, Step, Message, Reply, View, Tag, counted, best_stamp, done, leg_ticket, next_of, Next, Enter, Leg, Progress, CallState, ToRead, ToWrite, Doing, Mark, IsLatestTicket, draws, IsWork, common_steps, Contains-append_left, Contains-append_right, Contains-append_cases, StrongWork as Work, Work as Asked, IsAtMost-trans}
+use Rattle.std.proofs.lemmas.Option.{same_Some}
+use Rattle.register_law.proofs.Words.{Call, IsAbove, IsAtMost, Stamp, Step, Message, Reply, View, Tag, counted, best_stamp, done, leg_ticket, next_of, Next, Enter, Leg, Progress, CallState, ToRead, ToWrite, Doing, Mark, IsLatestTicket, draws, IsWork, common_steps, Contains-append_left, Contains-append_right, Contains-append_cases, StrongWork as Work, Work as Asked, IsAtMost-trans, IsAtMost-refl}
 use Rattle.relay_proxy.specs.declared.stage.Stage.TheVariants as doing
 use Rattle.run_marks.specs.declared.mark.Mark.TheVariants as k
-use Rattle.register_law.proofs.Growth.{at_most_itself}
 use Rattle.register_law.proofs.Next.{RestsOn, EntersWhen, EntersWith, rests_on}
 use Rattle.register_law.proofs.MovesStep.{counted_tag}
 use Rattle.register_law.proofs.CallsOthers.{StrongStep, counts_it, ignores_it}
 use Rattle.audit_law.specs.Live.{StrongLatest, EventualLatest}
 use Rattle.audit_law.proofs.StrongFits.{counted_latest}
-use Rattle.register_law.proofs.Basics.{some_stamp}
 use Rattle.register_law.proofs.CallsGoes.{earlier_epoch}
 
 -- among these marks the call draws this ticket, and no other
@@ -48,7 +47,7 @@ first_of_leg marks more call old new h lt d = record {
   drawn = Contains-append_right marks more (k.Ticket call new.ticket) (d.drawn new.ticket refl);
   latest = λ earlier c. elim (Contains-append_cases marks more (k.Ticket call earlier) c) as (λ _. IsAtMost earlier new.ticket) [
     | inl was ↦ (let e = h.1 in IsAtMost-trans earlier old.ticket new.ticket (h.0.latest earlier was) (earlier_epoch old.ticket new.ticket (omega (arith, e, lt))))
-    | inr is ↦ subst (λ (x : Stamp). IsAtMost x new.ticket) (some_stamp new.ticket earlier (d.only earlier is)) (at_most_itself new.ticket)
+    | inr is ↦ subst (λ (x : Stamp). IsAtMost x new.ticket) (same_Some new.ticket earlier (d.only earlier is)) (IsAtMost-refl new.ticket)
   ];
 }
 
@@ -97,7 +96,7 @@ pub record IsDrawn (marks : List Mark) (call : Call) (asked : Asked) (stamp : St
 entered_drawn : (work : Work) (marks : List Mark) (call : Call) (old new : Leg) (asked : Asked) (stamp : Stamp) → ((value : List ℕ) → work ≡ ToWrite value → IsLater old new) → leg_ticket work new ≡ Some stamp → StrongLatest work marks call old → IsWork work asked → IsDrawn marks call asked stamp None
 entered_drawn ToRead marks call old new asked stamp later is h work = absurd (cc)
 entered_drawn (ToWrite value) marks call old new asked stamp later is h work =
-    let same : new.ticket ≡ stamp = some_stamp new.ticket stamp is in
+    let same : new.ticket ≡ stamp = same_Some new.ticket stamp is in
     record {
       above = λ earlier c. subst (λ (x : Stamp). IsAbove x earlier) same (rises marks call old new h (later value refl).later earlier c);
       draws = subst (λ (x : Asked). draws x ≡ true) (sym work) refl;

@@ -1,18 +1,17 @@
 -- After each event the lines tell of each call that lives what they should.
 use Rattle.std.proofs.Common.{◌≡◌, ℕ, List, ◌∷◌, ◌++◌, refl, sym, ap, subst, arith, Option, Some, None, Contains}
-use Rattle.register_law.proofs.Words.{Call, KeyId, Stamp, tag_of, Message, Outputs, Reply, View, Tag, Handle, Mark, Work, key_of_call, tag_of_call, learned, Store, proxy_at, view_at, Happening, end_marks, handle_in, is_strong_key, ticket_marks, LiveCall, CallTook, Happened, Started, next_call, IsLiveAt, Contains-append_left, Contains-append_right}
+use Rattle.register_law.proofs.Words.{Call, KeyId, Stamp, tag_of, Message, Outputs, Reply, View, Tag, Handle, Mark, Work, key_of_call, tag_of_call, learned, Store, proxy_at, view_at, Happening, end_marks, handle_in, ticket_marks, LiveCall, CallTook, Happened, Started, next_call, IsLiveAt, Contains-append_left, Contains-append_right}
 use Rattle.run_marks.specs.declared.mark.Mark.TheVariants as k
 use Rattle.world_core.specs.Starting as starting
 use Rattle.register_law.proofs.TagsSends.{GoesOn, stays, turns, ends}
 use Rattle.register_law.proofs.TagsSteps.{may_ask, take_goes_on}
-use Rattle.register_law.proofs.TagsCalls.{started_opens, taken_of}
+use Rattle.register_law.proofs.TagsCalls.{started_opens, taken_of, started_as}
 use Rattle.register_law.proofs.CallsOthers.{take_ticket}
 use Rattle.register_law.proofs.CallsLive.{LiveAfter, stayed, begun, went_on, tickets_in, live_after}
 use Rattle.register_law.proofs.MarksAre.{start_ticket}
 use Rattle.audit_law.specs.Live.{HasLatest, IsTold, LogIsFormed}
 use Rattle.audit_law.proofs.Tickets.{DrawsOnly}
 use Rattle.audit_law.proofs.Takes.{take_does, take_latest, latest_stays}
-use Rattle.register_law.proofs.CallsRows.{opens}
 use Rattle.audit_law.proofs.Opened.{IsBegun, call_begun, begun_does, begun_latest}
 use Rattle.audit_law.proofs.Unended.{next_call_is_new, unended_after}
 
@@ -53,7 +52,7 @@ told_begun s h marks f p at work st unended =
     let own : (tag_of_call st.taken.state).call ≡ next_call s p = ap (λ (t : Tag). t.call) opened.tag_is in
     let marks_is : h.marks ≡ k.Begin (next_call s p) at work ∷ starting.ticket_marks (next_call s p) (start_ticket s p at) work = ap (λ (x : Happening). x.marks) st.is in
     let is_begun : IsBegun work (start_ticket s p at) st.taken.state =
-    call_begun _ _ _ _ (start_ticket s p at) work st.taken refl (opens (is_strong_key s at) (starting.first_tag (next_call s p) st.handle) (proxy_at s p).at (view_at (proxy_at s p).views at) (start_ticket s p at) work st.taken st.first) in
+    call_begun _ _ _ (start_ticket s p at) _ work st.taken refl (started_as s p at work h st) in
     record {
       at = at;
       work = work;

@@ -1,7 +1,8 @@
 -- Replicas agree where all that was sent has been taken.
 use Rattle.std.proofs.Common.{◌≡◌, ◌⊎◌, inl, inr, ℕ, ◌==◌, ◌<◌, ◌≤◌, true, List, [], ◌∷◌, ◌∙◌, sym, subst, arith, refl}
+use Rattle.register_law.proofs.Words.{and_left}
 use Rattle.std.specs.Prelude.{nat_lt, Contains}
-use Rattle.std.proofs.lemmas.Bool.{cases_lt, lt-ltb}
+use Rattle.std.proofs.lemmas.Bool.{cases_lt, lt-ltb, and_from}
 use Rattle.std.proofs.lemmas.Grind.{common_steps}
 use Rattle.span_base.specs.declared.ids.KeyId.{KeyId}
 use Rattle.span_base.specs.declared.policy.Policy.{Policy}
@@ -18,7 +19,7 @@ use Rattle.world_core.specs.State.{Store, kept_of, policy_of}
 use Rattle.register_law.specs.Ghost.{Ghost}
 use Rattle.register_law.specs.Seen.{is_at_most}
 use Rattle.register_law.specs.Ends.{IsChain, IsNewest}
-use Rattle.register_law.proofs.Quorums.{and_left, and_both, at_most_is}
+use Rattle.register_law.proofs.Quorums.{at_most_is}
 use Rattle.register_order.proofs.Stamps.{IsAtMost-trans}
 use Rattle.eventual_law.specs.Held.{IsAtReplica}
 use Rattle.eventual_law.specs.Laws.{IsCurrent, IsPlaced}
@@ -61,7 +62,7 @@ spread_reaches key s g r stamp spread now d there =
         (by_replica key s g r way.parent (m.Push spread.tag key stamp (onward_of policy spread.member way.parent) spread.value) (placed.there way.parent parent_there) (spread.sent way.parent way.direct) refl)
 
     onward : is_onward policy spread.member way.parent d ≡ true → has (onward_of policy spread.member way.parent) d ≡ true
-    onward on = has_set_of (is_onward policy spread.member way.parent) d ∙ and_both (nat_lt d 16) (is_onward policy spread.member way.parent d) (lt-ltb d 16 (has-below (replicas_of policy) d there)) on
+    onward on = has_set_of (is_onward policy spread.member way.parent) d ∙ and_from (nat_lt d 16) (is_onward policy spread.member way.parent d) (lt-ltb d 16 (has-below (replicas_of policy) d there)) on
 
 -- the version that opened the current epoch came to every replica of it
 seeds_reach : (key : KeyId) (s : Store) (g : Ghost) → IsAtRest key s g → (stamp : Stamp) (current : ℕ) (opened : List ℕ) → current ≡ current_of s.directory key → IsChain key s opened → IsNewest current opened → stamp.epoch < current → Contains opened stamp.epoch → IsAtReplica key s g stamp

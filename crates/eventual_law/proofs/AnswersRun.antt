@@ -1,5 +1,6 @@
 -- What the answers of replicas tell of an eventual key holds after every run.
 use Rattle.std.proofs.Common.{◌≡◌, ℕ, ◌≤◌, List, refl, sym, ap, subst, arith}
+use Rattle.register_law.proofs.Words.{IsAtMost-refl}
 use Rattle.std.specs.Prelude.{nat_lt, nat_le, max}
 use Rattle.std.proofs.lemmas.Bool.{le-ltb, ltb-false, le-leb}
 use Rattle.span_base.specs.declared.ids.KeyId.{KeyId}
@@ -18,7 +19,7 @@ use Rattle.register_law.specs.Ghost.{Ghost, noted_of, first_ghost}
 use Rattle.register_law.specs.Seen.{WasSent, version_before}
 use Rattle.register_law.specs.Cases.{Happened}
 use Rattle.register_law.proofs.Kept.{rises}
-use Rattle.register_law.proofs.Growth.{at_most_itself, before_grows, fixed_stays}
+use Rattle.register_law.proofs.Growth.{before_grows, fixed_stays}
 use Rattle.register_order.proofs.Stamps.{IsAtMost-trans}
 use Rattle.register_law.proofs.Opening.{nothing_sent, nothing_kept}
 use Rattle.register_law.proofs.ReplicasKept.{fixed_by}
@@ -106,6 +107,6 @@ tells_first header key e = record {
     yes_push = λ tag stamp onward value d asked _. absurd (nothing_sent header (m.Push tag key stamp onward value) asked);
     yes_seed = λ tag d epoch stamp value asked _. absurd (nothing_sent header (m.Seed tag key epoch stamp value) asked);
     have_freeze = λ tag d epoch version mark value asked _. absurd (nothing_sent header (m.Freeze tag key epoch) asked);
-    fixed_below = λ d e _. subst (λ (x : Kept). IsAtMost stamp_zero x.version) (sym (nothing_kept header d key)) (at_most_itself stamp_zero);
+    fixed_below = λ d e _. subst (λ (x : Kept). IsAtMost stamp_zero x.version) (sym (nothing_kept header d key)) (IsAtMost-refl stamp_zero);
   };
 }

@@ -1,5 +1,6 @@
 -- Every event keeps it that a call has one key.
 use Rattle.std.proofs.Common.{◌≡◌, ◌⊎◌, inl, inr, ℕ, ◌≤◌, List, [], ◌∷◌, ◌++◌, sym, ap, ◌∙◌, subst, arith}
+use Rattle.std.proofs.lemmas.Option.{same_Some}
 use Rattle.std.specs.Prelude.{Some, None, Contains}
 use Rattle.std.proofs.lemmas.List.Elements.{Contains-append_cases}
 use Rattle.span_base.specs.declared.ids.Call.{Call}
@@ -21,7 +22,6 @@ use Rattle.register_law.specs.Tags.{TagsTellApart, request_key}
 use Rattle.register_law.specs.Cases.{Happened, Started, next_call}
 use Rattle.register_law.proofs.Growth.{calls_grow}
 use Rattle.register_law.proofs.RequestsKept.{begins_next}
-use Rattle.register_law.proofs.Basics.{same_some}
 use Rattle.register_law.proofs.TagsSent.{IsPushedOn, Posted, replies, opens, asks, sent_after}
 use Rattle.register_law.proofs.TagsCalls.{LiveFrom, older, newer, live_from, next_is_none, taken_of}
 use Rattle.register_law.proofs.MarksAre.{MarksAre, unmarked, of_no_call, of_refused, of_start, of_call, of_give_up, marks_are, start_ticket, in_one, in_two, in_call_marks, in_start_marks}
@@ -84,9 +84,9 @@ of_posted s h marks request key call tags (replies from sent answer) at of = by 
     by (inl none) = absurd (cc)
     by (inr on) = inl (by_request from sent (sym on.same_key ∙ at) (ap (λ (t : Tag). t.call) (sym answer.tag) ∙ of))
 of_posted s h marks request key call tags (opens p on work st tag keyed free) at of =
-    inr (starts_on s h p on key work call tags st (same_some (view_at (proxy_at s p).views on).key key (sym keyed ∙ at)) (sym of ∙ ap (λ (t : Tag). t.call) tag))
+    inr (starts_on s h p on key work call tags st (same_Some (view_at (proxy_at s p).views on).key key (sym keyed ∙ at)) (sym of ∙ ap (λ (t : Tag). t.call) tag))
 of_posted s h marks request key call tags (asks p taken live post took tag keyed free c) at of =
-    inl (by_life p (handle_in taken) live took.live (same_some (key_of_call live) key (sym keyed ∙ at)) (ap (λ (t : Tag). t.call) (sym tag) ∙ of))
+    inl (by_life p (handle_in taken) live took.live (same_Some (key_of_call live) key (sym keyed ∙ at)) (ap (λ (t : Tag). t.call) (sym tag) ∙ of))
 
 of_live : (s : Store) (h : Happening) (marks : List Mark) (p : ℕ) (handle : Handle) (live : LiveCall) (key : KeyId) (call : Call) → TagsTellApart s → LiveFrom s h p handle live → key_of_call live ≡ key → (tag_of_call live).call ≡ call
     → IsOn s marks call key ⊎ BeginsOn s h call key

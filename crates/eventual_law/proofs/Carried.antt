@@ -1,5 +1,7 @@
 -- What is held in an epoch is held in each later one that has been current.
 use Rattle.std.proofs.Common.{◌≡◌, inl, inr, ℕ, ◌+◌, ◌≤◌, Bool, true, false, List, [], ◌∷◌, refl, subst, arith}
+use Rattle.std.proofs.lemmas.Bool.{and_from}
+use Rattle.register_law.proofs.Words.{and_left, and_right, IsAtMost-refl}
 use Rattle.std.specs.Prelude.{nat_lt, if◌then◌else◌, Contains}
 use Rattle.std.specs.List.{range_with_len}
 use Rattle.std.proofs.lemmas.Grind.{common_steps}
@@ -14,11 +16,10 @@ use Rattle.world_core.specs.State.{Store, kept_of, policy_of}
 use Rattle.register_law.specs.Ghost.{Ghost}
 use Rattle.register_law.specs.Seen.{WasSent, version_before, is_at_most, count_of, both}
 use Rattle.register_law.specs.Ends.{IsChain}
-use Rattle.register_law.proofs.Quorums.{at_most_test, at_most_trans, and_left, and_right, and_both, count_mono, shared, at_most_is}
+use Rattle.register_law.proofs.Quorums.{at_most_test, at_most_trans, count_mono, shared, at_most_is}
 use Rattle.register_order.proofs.Members.{among, none_among}
 use Rattle.register_order.proofs.Stamps.{IsAtMost-trans}
 use Rattle.eventual_law.specs.Held.{is_replica, IsHeld, AreFrozen, SwitchHeld, IsAtReplica}
-use Rattle.register_law.proofs.Growth.{at_most_itself}
 
 -- what some have, one has
 pub one_has : (n : ℕ) (a b : ℕ → Bool) → n + 1 ≤ count_of (both a b) → (d : ℕ) × (a d ≡ true) × (b d ≡ true)
@@ -32,7 +33,7 @@ held_below : (key : KeyId) (s : Store) (g : Ghost) (epoch : ℕ) (high low : Sta
 held_below key s g epoch high low below h =
     let w : ℕ → Bool = has (replicas_of (policy_of s key epoch)) in
     let more = count_mono (both w (λ d. is_at_most high (version_before key s g d epoch))) (both w (λ d. is_at_most low (version_before key s g d epoch)))
-    (λ d k. and_both (w d) (is_at_most low (version_before key s g d epoch)) (and_left (w d) (is_at_most high (version_before key s g d epoch)) k)
+    (λ d k. and_from (w d) (is_at_most low (version_before key s g d epoch)) (and_left (w d) (is_at_most high (version_before key s g d epoch)) k)
     (at_most_trans low high (version_before key s g d epoch) (at_most_test low high below) (and_right (w d) (is_at_most high (version_before key s g d epoch)) k))) (range_with_len 0 16) in
     omega arith
 
@@ -88,7 +89,7 @@ pub held_now : (key : KeyId) (s : Store) (g : Ghost) (epoch : ℕ) (stamp : Stam
 held_now key s g epoch stamp fixed h =
     let w : ℕ → Bool = has (replicas_of (policy_of s key epoch)) in
     let more = count_mono (both w (λ d. is_at_most stamp (version_before key s g d epoch))) (both w (λ d. is_at_most stamp (kept_of s d key).version))
-    (λ d k. and_both (w d) (is_at_most stamp (kept_of s d key).version) (and_left (w d) (is_at_most stamp (version_before key s g d epoch)) k)
-    (before_is_below (nat_lt (kept_of s d key).frozen epoch) (kept_of s d key).version (g.fixed d epoch) stamp (λ no. fixed d epoch (frozen_for (kept_of s d key).frozen epoch no)) (at_most_itself (kept_of s d key).version)
+    (λ d k. and_from (w d) (is_at_most stamp (kept_of s d key).version) (and_left (w d) (is_at_most stamp (version_before key s g d epoch)) k)
+    (before_is_below (nat_lt (kept_of s d key).frozen epoch) (kept_of s d key).version (g.fixed d epoch) stamp (λ no. fixed d epoch (frozen_for (kept_of s d key).frozen epoch no)) (IsAtMost-refl (kept_of s d key).version)
     (and_right (w d) (is_at_most stamp (version_before key s g d epoch)) k))) (range_with_len 0 16) in
     omega arith

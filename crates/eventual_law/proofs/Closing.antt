@@ -27,8 +27,7 @@ use Rattle.register_law.specs.Seen.{WasSent}
 use Rattle.register_law.specs.Tags.{IsLiveAt}
 use Rattle.register_law.specs.Cases.{Happened, CallTook}
 use Rattle.register_law.proofs.Basics.{WasPosted}
-use Rattle.register_law.proofs.MovesTook.{counts_asked}
-use Rattle.register_law.proofs.MovesStep.{MoveTook, move_took, unheard, was_current, froze_first, froze_one, froze_all, seeded_next, seeded_all, was_refused, was_stale, arrived, counts_own, made_by}
+use Rattle.register_law.proofs.MovesStep.{MoveTook, move_took, unheard, was_current, froze_first, froze_one, froze_all, seeded_next, seeded_all, was_refused, was_stale, arrived, counts_own, made_by, counts_asked}
 use Rattle.register_law.proofs.WaitingMeets.{Meets, untouched, takes, given_up, meets, takes_and_lives}
 use Rattle.eventual_law.specs.Known.{by_request, by_life}
 use Rattle.eventual_law.specs.Held.{IsHeldMove, SeedingHeld, SwitchingHeld, InvOfEventual}

@@ -1,5 +1,7 @@
 -- What the answers that count for a put or a move of an eventual key come to.
-use Rattle.std.proofs.Common.{◌≡◌, inl, inr, ℕ, ◌+◌, ◌≤◌, Bool, true, false, List, refl, sym, subst, arith}
+use Rattle.std.proofs.Common.{◌≡◌, inl, inr, ℕ, ◌+◌, ◌≤◌, Bool, true, false, List, refl, sym, subst, arith, eqb-true}
+use Rattle.std.proofs.lemmas.Bool.{and_from}
+use Rattle.register_law.proofs.Words.{has-insert_cases, IsAtMost-refl}
 use Rattle.std.specs.Prelude.{◌==◌, nat_le, if◌then◌else◌, length, Option, Some, None}
 use Rattle.std.specs.List.{range_with_len}
 use Rattle.std.specs.Ordering.{is_gt}
@@ -24,11 +26,8 @@ use Rattle.world_core.specs.State.{Store, policy_of}
 use Rattle.register_order.proofs.Stamps.{IsAtMost-trans}
 use Rattle.register_law.specs.Ghost.{Ghost}
 use Rattle.register_law.specs.Seen.{WasSent, version_before, is_at_most, count_of, both}
-use Rattle.register_law.proofs.Basics.{equal_is}
-use Rattle.register_law.proofs.Quorums.{at_most_test, and_both, count_mono, inserted}
-use Rattle.register_law.proofs.Growth.{at_most_itself}
-use Rattle.register_law.proofs.MovesTook.{counts_asked}
-use Rattle.register_law.proofs.MovesStep.{counts_own}
+use Rattle.register_law.proofs.Quorums.{at_most_test, count_mono}
+use Rattle.register_law.proofs.MovesStep.{counts_own, counts_asked}
 use Rattle.eventual_law.specs.Told.{EventualAnswersTell}
 use Rattle.eventual_law.specs.Held.{is_replica, IsHeld, AreFrozen, IsFrozenWith, FreezingHeld}
 
@@ -42,18 +41,18 @@ unfolding centres_of centres_below
 held_by key s g epoch f stamp good faults enough within have =
     let w : ℕ → Bool = has (replicas_of (policy_of s key epoch)) in
     let more = count_mono (has good) (both w (λ d. is_at_most stamp (version_before key s g d epoch)))
-    (λ d k. and_both (w d) (is_at_most stamp (version_before key s g d epoch)) (within d k) (at_most_test stamp (version_before key s g d epoch) (have d k))) (range_with_len 0 16) in
+    (λ d k. and_from (w d) (is_at_most stamp (version_before key s g d epoch)) (within d k) (at_most_test stamp (version_before key s g d epoch) (have d k))) (range_with_len 0 16) in
     let many : f + 1 ≤ count_of (both w (λ d. is_at_most stamp (version_before key s g d epoch))) = at_least (f + 1) (count_of (has good)) (count_of (both w (λ d. is_at_most stamp (version_before key s g d epoch)))) enough more in
     subst (λ n. n + 1 ≤ count_of (both w (λ d. is_at_most stamp (version_before key s g d epoch)))) faults many
 
 -- one more that counted
 pub one_more : (P : ℕ → Type 0) (phase : Phase) (replica : DcId) → P replica.0 → ((d : ℕ) → has phase.good d ≡ true → P d) → (d : ℕ) → has (with_good phase replica).good d ≡ true → P d
-one_more P phase replica new old d there = elim (inserted phase.good replica.0 d there) as (λ _. P d) [ inl is ↦ subst P (sym is) new | inr was ↦ old d was ]
+one_more P phase replica new old d there = elim (has-insert_cases phase.good replica.0 d there) as (λ _. P d) [ inl is ↦ subst P (sym is) new | inr was ↦ old d was ]
 
 -- where all that were asked counted
 all_counted : (phase : Phase) → (bits_of phase.good == bits_of phase.asked) ≡ true → (d : ℕ) → has phase.asked d ≡ true → has phase.good d ≡ true
 all_counted phase all d there =
-    let same : phase.good.bits ≡ phase.asked.bits = equal_is phase.good.bits phase.asked.bits all in
+    let same : phase.good.bits ≡ phase.asked.bits = eqb-true phase.good.bits phase.asked.bits all in
     subst (λ n. has (record { bits = n }) d ≡ true) (sym same) there
 
 above_both : (one other : Stamp) → is_gt (stamp_cmp one other) ≡ true → IsAtMost other one
@@ -68,7 +67,7 @@ found_same a b e = cc
 -- the greatest of what was found is at least what came now, and what was found before
 better_above : (best : Option Found) (version : Stamp) (value : List ℕ) (found : Found) → better best version value ≡ Some found → IsAtMost version found.stamp × ((was : Found) → best ≡ Some was → IsAtMost was.stamp found.stamp)
 better_above None version value found e =
-    (subst (λ (x : Found). IsAtMost version x.stamp) (found_same (record { stamp = version; value = value }) found e) (at_most_itself version), λ was is. absurd (cc))
+    (subst (λ (x : Found). IsAtMost version x.stamp) (found_same (record { stamp = version; value = value }) found e) (IsAtMost-refl version), λ was is. absurd (cc))
 better_above (Some old) version value found e = by (is_gt (stamp_cmp version old.stamp)) refl e
   where
     old_is : (now : Found) → IsAtMost old.stamp now.stamp → (was : Found) → Some old ≡ Some was → IsAtMost was.stamp now.stamp
@@ -77,10 +76,10 @@ better_above (Some old) version value found e = by (is_gt (stamp_cmp version old
     by : (b : Bool) → is_gt (stamp_cmp version old.stamp) ≡ b → (if b then Some (record { stamp = version; value = value }) else Some old) ≡ Some found → IsAtMost version found.stamp × ((was : Found) → Some old ≡ Some was → IsAtMost was.stamp found.stamp)
     by true is z =
         subst (λ (x : Found). IsAtMost version x.stamp × ((was : Found) → Some old ≡ Some was → IsAtMost was.stamp x.stamp)) (found_same (record { stamp = version; value = value }) found z)
-        (at_most_itself version, old_is (record { stamp = version; value = value }) (above_both version old.stamp is))
+        (IsAtMost-refl version, old_is (record { stamp = version; value = value }) (above_both version old.stamp is))
     by false is z =
         subst (λ (x : Found). IsAtMost version x.stamp × ((was : Found) → Some old ≡ Some was → IsAtMost was.stamp x.stamp)) (found_same old found z)
-        (not_above version old.stamp is, old_is old (at_most_itself old.stamp))
+        (not_above version old.stamp is, old_is old (IsAtMost-refl old.stamp))
 
 with_better : (key : KeyId) (s : Store) (g : Ghost) (d epoch : ℕ) (best : Option Found) (version : Stamp) (value : List ℕ) (found : Found) → better best version value ≡ Some found → IsFrozenWith key s g d epoch best → IsFrozenWith key s g d epoch (Some found)
 with_better key s g d epoch best version value found e was =

@@ -1,9 +1,10 @@
 -- A member's write comes to every replica of a sound policy: from the member itself, or by a replica that has it from the member.
 use Rattle.std.proofs.Common.{◌≡◌, ◌≢◌, ◌⊎◌, inl, inr, ℕ, ◌<◌, Bool, true, false, List, [], ◌∷◌, refl, sym, ap, ◌∙◌, subst, arith}
+use Rattle.register_law.proofs.Words.{and_left, and_right}
 use Rattle.std.specs.Prelude.{◌==◌, ◌&&◌, not, find, map, Option, Some, None, Contains}
 use Rattle.std.specs.List.{AllPairs, flat_map}
 use Rattle.std.specs.Option.{option_map_or}
-use Rattle.std.proofs.lemmas.Bool.{eq-eqb, eqb-true}
+use Rattle.std.proofs.lemmas.Bool.{eq-eqb, eqb-true, and_from}
 use Rattle.std.proofs.lemmas.List.Elements.{All-contains}
 use Rattle.span_base.specs.DcSet.{has, centres_of}
 use Rattle.span_base.specs.Policy.{ArePrimaries, AreHops, IsDirect, IsSoundPolicy, lane_of, lanes_of}
@@ -16,7 +17,6 @@ use Rattle.span_base.specs.declared.policy.Policy.TheVariants.{Direct, Relay, St
 use Rattle.span_base.proofs.Sets.{All-centres_of, IsStrictlyIncreasing-centres_of}
 use Rattle.relay_proxy.specs.Routes.{parent_of, is_direct, is_onward}
 use Rattle.register_order.proofs.Members.{among, none_among, in_flat_map, Contains-here, Contains-there, AllPairs-append, AllPairs-head, AllPairs-tail, AllPairs-nil, All-from_each}
-use Rattle.register_law.proofs.Quorums.{and_left, and_right, and_both}
 use Rattle.std.proofs.lemmas.List.Kept.{AllPairs-cons, AllPairs-from_increasing}
 use Rattle.eventual_law.proofs.Lists.{into_map, found_in, finds_some}
 
@@ -78,7 +78,7 @@ pub record IsCovered (policy : Policy) (member d : ℕ) : Type 0 where
 -- a replica that the member writes to itself
 itself : (policy : Policy) (member d : ℕ) → has (replicas_of policy) d ≡ true → parent_of policy member d ≡ d → IsCovered policy member d
 itself policy member d there own =
-    record { parent = d; direct = and_both (has (replicas_of policy) d) (parent_of policy member d == d) there (eq-eqb (parent_of policy member d) d own); comes = inl refl }
+    record { parent = d; direct = and_from (has (replicas_of policy) d) (parent_of policy member d == d) there (eq-eqb (parent_of policy member d) d own); comes = inl refl }
 
 hop_test : ℕ → ℕ → Hop → Bool
 hop_test member child h = (h.member.0 == member) && (h.child.0 == child)
@@ -97,7 +97,7 @@ relayed f replicas primary hops member d sound h there None none = itself (Relay
 relayed f replicas primary hops member d sound h there (Some hop) some =
     record {
       parent = p;
-      direct = and_both (has replicas p) (parent_of policy member p == p) in_set (eq-eqb (parent_of policy member p) p again);
+      direct = and_from (has replicas p) (parent_of policy member p == p) in_set (eq-eqb (parent_of policy member p) p again);
       comes = by (d == p) refl;
     }
   where
@@ -123,7 +123,7 @@ relayed f replicas primary hops member d sound h there (Some hop) some =
     of_member = ap (λ (x : ℕ × ℕ). x.0) (lane_is member d hop from.1)
 
     passes : hop_test member p first ≡ true
-    passes = and_both (hop.member.0 == member) (p == p) (eq-eqb hop.member.0 member of_member) (eq-eqb p p refl)
+    passes = and_from (hop.member.0 == member) (p == p) (eq-eqb hop.member.0 member of_member) (eq-eqb p p refl)
 
     apart : AllPairs Apart (map lane_of hops)
     apart = subst (AllPairs Apart) (sym h.lanes) (lanes_apart replicas primary sound.centres.distinct)
@@ -142,7 +142,7 @@ relayed f replicas primary hops member d sound h there (Some hop) some =
 
     by : (b : Bool) → (d == p) ≡ b → (d ≡ p) ⊎ (is_onward policy member p d ≡ true)
     by true is = inl (eqb-true d p is)
-    by false is = inr (and_both (has replicas d && (parent_of policy member d == p)) (not (d == p)) (and_both (has replicas d) (parent_of policy member d == p) there (eq-eqb (parent_of policy member d) p parent_is)) (rw is refl))
+    by false is = inr (and_from (has replicas d && (parent_of policy member d == p)) (not (d == p)) (and_from (has replicas d) (parent_of policy member d == p) there (eq-eqb (parent_of policy member d) p parent_is)) (rw is refl))
 
 -- every replica of a sound policy is covered
 pub covered : (policy : Policy) (member d : ℕ) → IsSoundPolicy policy → has (replicas_of policy) d ≡ true → IsCovered policy member d

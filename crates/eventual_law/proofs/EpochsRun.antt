@@ -1,5 +1,6 @@
 -- After every run the epochs of an eventual key that have been current are a chain, and the directory told of no others.
 use Rattle.std.proofs.Common.{◌≡◌, inl, inr, ℕ, ◌<◌, ◌≤◌, Bool, true, false, List, [], ◌∷◌, refl, sym, ap, ◌∙◌, subst, arith}
+use Rattle.std.proofs.lemmas.List.{length-replicate}
 use Rattle.std.specs.Prelude.{◌==◌, if◌then◌else◌, length, map, Contains}
 use Rattle.std.proofs.lemmas.Bool.{eq-eqb}
 use Rattle.span_base.specs.declared.ids.KeyId.{KeyId}
@@ -17,8 +18,8 @@ use Rattle.register_law.specs.Ends.{IsChain, IsNewest}
 use Rattle.register_law.specs.Cases.{Happened}
 use Rattle.register_law.proofs.Growth.{directory_grows, policy_stays}
 use Rattle.register_law.proofs.Opening.{nothing_sent}
-use Rattle.register_law.proofs.OpeningHolds.{current_is, replicated}
-use Rattle.register_law.proofs.Basics.{mapped_length, WasPosted, sent_cases}
+use Rattle.register_law.proofs.OpeningHolds.{current_is}
+use Rattle.register_law.proofs.Basics.{WasPosted, sent_cases}
 use Rattle.register_order.proofs.Members.{among, none_among, Contains-there}
 use Rattle.register_law.proofs.OpeningsCurrent.{CurrentAfter, same_current, switched, current_after, keys_stay}
 use Rattle.register_law.proofs.OpeningsKept.{longer, newest_after}
@@ -27,6 +28,7 @@ use Rattle.register_law.proofs.TagsSent.{was_sent_stays}
 use Rattle.eventual_law.specs.Keys.{IsEventualKey}
 use Rattle.eventual_law.specs.Epochs.{HereIs, EpochsAreChained}
 use Rattle.register_law.proofs.MovesKept.{posted}
+use Rattle.register_law.proofs.Words.{length-map}
 
 chain_stays : (key : KeyId) (s z : Store) → ((message : Message) → WasSent s message → WasSent z message) → (opened : List ℕ) → IsChain key s opened → IsChain key z opened
 chain_stays key s z more [] c = c
@@ -117,7 +119,7 @@ one_published header e is = (omega arith, omega arith)
 
 keys_there : (header : Header) (key : KeyId) → key.0 < length header.keys → key.0 < length (opening header).directory.current
 unfolding opening
-keys_there header key lt = subst (λ n. key.0 < n) (sym (replicated (length (map key_set header.keys)) 1 ∙ mapped_length key_set header.keys)) lt
+keys_there header key lt = subst (λ n. key.0 < n) (sym (length-replicate (length (map key_set header.keys)) 1 ∙ length-map header.keys key_set)) lt
 
 pub epochs_first : (header : Header) (key : KeyId) → IsEventualKey header key.0 → EpochsAreChained key (opening header) first_ghost
 epochs_first header key k = record {

@@ -1,5 +1,6 @@
 -- An answer that a live move of an eventual key has been delivered in its phase has counted.
 use Rattle.std.proofs.Common.{◌≡◌, ℕ, ◌+◌, ◌<◌, Bool, true, false, List, refl, sym, ap, subst, arith}
+use Rattle.register_law.proofs.Words.{has-insert_stays}
 use Rattle.std.specs.Prelude.{max, if◌then◌else◌, Option, Some, None}
 use Rattle.std.proofs.lemmas.Bool.{eq-eqb}
 use Rattle.span_base.specs.DcSet.{has}
@@ -23,9 +24,8 @@ use Rattle.migration.specs.declared.stage.Stage.TheVariants as at
 use Rattle.migration.specs.Eventual.{eventual as eventual_rule}
 use Rattle.migration.specs.Move.{Moving, unchanged, waits, seeds, switches, froze, seeded_one, ends_at, ends_stale}
 use Rattle.migration.specs.Move as move
-use Rattle.register_law.proofs.MovesStep.{MoveTook, unheard, was_current, froze_first, froze_one, froze_all, seeded_next, seeded_all, was_refused, was_stale, arrived}
-use Rattle.register_law.proofs.Quorums.{stays_in}
-use Rattle.register_law.proofs.MovesTook.{counts_asked, better_some}
+use Rattle.register_law.proofs.MovesStep.{MoveTook, unheard, was_current, froze_first, froze_one, froze_all, seeded_next, seeded_all, was_refused, was_stale, arrived, counts_asked}
+use Rattle.register_law.proofs.MovesTook.{better_some}
 use Rattle.eventual_law.specs.Quiet.{HasCounted, IsOpenStill}
 
 -- the tags are one
@@ -138,11 +138,11 @@ counts_now call (m.Here tag key epoch policy latest_epoch latest_policy) h own e
 
 -- what counted stays counted in the phase
 freezing_more : (old new : Epoch) (best more : Option Found) (phase : Phase) (replica : DcId) (message : Message) → replica.0 < 16 → HasCounted (at.Freezing old new best) phase message → HasCounted (at.Freezing old new more) (with_good phase replica) message
-freezing_more old new best more phase replica (m.Have tag d version mark value) lt h = λ asked. stays_in phase.good replica.0 d.0 lt (h asked)
+freezing_more old new best more phase replica (m.Have tag d version mark value) lt h = λ asked. has-insert_stays phase.good replica.0 d.0 lt (h asked)
 freezing_more old new best more phase replica message lt h = tt
 
 seeding_more : (old : ℕ) (new : Epoch) (frozen : DcSet) (seeded : Stamp) (top_gone more : ℕ) (phase : Phase) (replica : DcId) (message : Message) → replica.0 < 16 → HasCounted (at.Seeding old new frozen seeded top_gone) phase message → HasCounted (at.Seeding old new frozen seeded more) (with_good phase replica) message
-seeding_more old new frozen seeded top_gone more phase replica (m.Yes tag d) lt h = λ asked. stays_in phase.good replica.0 d.0 lt (h asked)
+seeding_more old new frozen seeded top_gone more phase replica (m.Yes tag d) lt h = λ asked. has-insert_stays phase.good replica.0 d.0 lt (h asked)
 seeding_more old new frozen seeded top_gone more phase replica message lt h = tt
 
 seeding_bad : (old : ℕ) (new : Epoch) (frozen : DcSet) (seeded : Stamp) (top_gone more : ℕ) (phase : Phase) (replica : DcId) (message : Message) → HasCounted (at.Seeding old new frozen seeded top_gone) phase message → HasCounted (at.Seeding old new frozen seeded more) (with_bad phase replica) message

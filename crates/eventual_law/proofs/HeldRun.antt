@@ -20,7 +20,6 @@ use Rattle.world_core.specs.Run.{MayRun, run_of}
 use Rattle.register_law.specs.Ghost.{Ghost, noted_of, first_ghost, history}
 use Rattle.register_law.specs.Seen.{Grows}
 use Rattle.register_law.specs.Cases.{Happened}
-use Rattle.register_law.proofs.Basics.{mapped_length}
 use Rattle.register_law.proofs.Induction.{Keeps, all_along}
 use Rattle.register_law.proofs.Growth.{step_grows}
 use Rattle.register_law.proofs.Happened.{happened}
@@ -36,6 +35,7 @@ use Rattle.eventual_law.proofs.PutsHeld.{live_puts_kept}
 use Rattle.eventual_law.proofs.Reached.{reached_kept}
 use Rattle.eventual_law.proofs.StoredHeld.{marks_kept, stored_kept}
 use Rattle.eventual_law.proofs.Views.{views_kept}
+use Rattle.register_law.proofs.Words.{length-map}
 
 pub grows_by : (key : KeyId) (s : Store) (g : Ghost) (h : Happening) → Happened s h → InvOfEventual key s g → Grows key s g h.store (noted_of key s h g)
 grows_by key s g h is inv = step_grows key s g h is (λ call some. let b = inv.marks.noted call some in inv.known.calls.begun call key b.0 b.1)
@@ -75,7 +75,7 @@ view_is header key p lk lp = at header.proxies p lp
 views_first : (header : Header) (key : KeyId) → IsEventualKey header key.0 → KnowsOpened key (opening header) first_ghost
 unfolding opening
 views_first header key e p lt =
-    let here : p < length header.proxies = let l = mapped_length (opening_proxy header) header.proxies in omega arith in
+    let here : p < length header.proxies = let l = length-map header.proxies (opening_proxy header) in omega arith in
     subst (λ (v : View). Contains (1 ∷ []) v.epoch × (v.policy ≡ policy_of (opening header) key v.epoch)) (sym (view_is header key p e.exists here)) ((0, omega arith, refl), sym (policy_is header key))
 
 pub inv_first : (header : Header) (key : KeyId) → IsEventualKey header key.0 → InvOfEventual key (opening header) first_ghost

@@ -1,5 +1,7 @@
 -- What puts and moves of an eventual key rest on stays true as the state grows.
 use Rattle.std.proofs.Common.{◌≡◌, inl, inr, ℕ, ◌+◌, ◌≤◌, true, sym, ◌∙◌, subst, arith, Bool}
+use Rattle.std.proofs.lemmas.Bool.{and_from}
+use Rattle.register_law.proofs.Words.{and_left, and_right}
 use Rattle.std.specs.Prelude.{Contains, Option}
 use Rattle.std.specs.List.{range_with_len}
 use Rattle.span_base.specs.DcSet.{has}
@@ -21,7 +23,7 @@ use Rattle.world_core.specs.State.{Store, policy_of}
 use Rattle.register_order.proofs.Stamps.{IsAtMost-trans}
 use Rattle.register_law.specs.Ghost.{Ghost}
 use Rattle.register_law.specs.Seen.{Grows, version_before, is_at_most, count_of, both}
-use Rattle.register_law.proofs.Quorums.{at_most_test, at_most_trans, and_left, and_right, and_both, count_mono}
+use Rattle.register_law.proofs.Quorums.{at_most_test, at_most_trans, count_mono}
 use Rattle.register_law.proofs.MovesStable.{sent_stays, IsOut, target_stays}
 use Rattle.eventual_law.specs.Opened.{WasSeeded}
 use Rattle.eventual_law.specs.Held.{is_replica, IsHeld, AreFrozen, IsSeededTo, SwitchHeld, IsFrozenWith, FreezingHeld, SeedingHeld, SwitchingHeld, IsHeldMove, WasDone, IsAtReplica, IsReached}
@@ -50,7 +52,7 @@ held_stays key s g z h e stamp grows out was =
     enough : faults_of (policy_of s key e) + 1 ≤ count_of (both w (λ d. is_at_most stamp (version_before key z h d e)))
     enough =
         let more = count_mono (both w (λ d. is_at_most stamp (version_before key s g d e))) (both w (λ d. is_at_most stamp (version_before key z h d e)))
-        (λ d k. and_both (w d) (is_at_most stamp (version_before key z h d e)) (and_left (w d) (is_at_most stamp (version_before key s g d e)) k)
+        (λ d k. and_from (w d) (is_at_most stamp (version_before key z h d e)) (and_left (w d) (is_at_most stamp (version_before key s g d e)) k)
         (at_most_trans stamp (version_before key s g d e) (version_before key z h d e) (and_right (w d) (is_at_most stamp (version_before key s g d e)) k)
         (at_most_test (version_before key s g d e) (version_before key z h d e) (grows.before d e)))) (range_with_len 0 16) in
         omega arith

@@ -1,5 +1,5 @@
 -- Every event keeps what the moves of an eventual key, and what they ask, rest on.
-use Rattle.std.proofs.Common.{◌≡◌, ◌⊎◌, inl, inr, ℕ, ◌+◌, ◌<◌, Bool, true, false, List, ◌∷◌, refl, sym, ap, ◌∙◌, subst, arith}
+use Rattle.std.proofs.Common.{◌≡◌, ◌⊎◌, inl, inr, ℕ, ◌+◌, ◌<◌, Bool, true, false, List, ◌∷◌, refl, sym, ap, ◌∙◌, subst, arith, eqb-true}
 use Rattle.std.specs.Prelude.{◌==◌, if◌then◌else◌, Contains}
 use Rattle.span_base.specs.DcSet.{no_centre}
 use Rattle.span_base.specs.declared.ids.Call.{Call}
@@ -28,7 +28,7 @@ use Rattle.register_law.specs.Ghost.{Ghost, noted_of}
 use Rattle.register_law.specs.Seen.{WasSent, Grows}
 use Rattle.register_law.specs.Tags.{IsLiveAt}
 use Rattle.register_law.specs.Cases.{Happened, CallTook}
-use Rattle.register_law.proofs.Basics.{equal_is, WasPosted, sent_cases}
+use Rattle.register_law.proofs.Basics.{WasPosted, sent_cases}
 use Rattle.register_law.proofs.EndsKinds.{taken_key}
 use Rattle.register_law.proofs.MovesStep.{move_took}
 use Rattle.register_law.proofs.OpeningsCurrent.{can_is, done_is_current}
@@ -150,7 +150,7 @@ switch_after key s g h inv is tag old new (inl was) = inv.moves.switch_sent tag 
 switch_after key s g h inv is tag old new (inr now) = switches_now key s g h inv tag old new (sends key s h (m.Switch tag key old new) is inv.known.kinds now refl)
 
 opened_now : (old new : ℕ) (opened : List ℕ) (b : Bool) → (new == old) ≡ b → old < new → Contains (if b then opened else new ∷ opened) new
-opened_now old new opened true e lt = absurd (let same = equal_is new old e in omega arith)
+opened_now old new opened true e lt = absurd (let same = eqb-true new old e in omega arith)
 opened_now old new opened false e lt = (0, omega arith, refl)
 
 done_now : (key : KeyId) (s : Store) (g : Ghost) (h : Happening) → InvOfEventual key s g → Grows key s g h.store (noted_of key s h g) → (tag : Tag) → SwitchedNow s h tag key true → WasDone key h.store (noted_of key s h g) tag

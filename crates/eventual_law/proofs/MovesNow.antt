@@ -1,5 +1,6 @@
 -- What a move of an eventual key goes on to rests on what it should.
 use Rattle.std.proofs.Common.{◌≡◌, ℕ, ◌+◌, ◌<◌, ◌≤◌, true, false, [], refl, sym, ap, ◌∙◌, subst, arith}
+use Rattle.register_law.proofs.Words.{none_in}
 use Rattle.std.specs.Prelude.{◌==◌, Option, None, Contains}
 use Rattle.std.proofs.lemmas.Grind.{common_steps}
 use Rattle.span_base.specs.DcSet.{has}
@@ -35,9 +36,9 @@ use Rattle.register_law.specs.Ghost.{Ghost}
 use Rattle.register_law.specs.Seen.{Grows, WasSent, version_before}
 use Rattle.register_law.specs.Tags.{IsLiveAt}
 use Rattle.register_law.specs.Live.{IsTargetOf}
-use Rattle.register_law.proofs.MovesTook.{counts_asked, none_in, within_good, better_some}
+use Rattle.register_law.proofs.MovesTook.{within_good, better_some}
 use Rattle.register_law.proofs.MovesStable.{target_stays}
-use Rattle.register_law.proofs.MovesStep.{MoveTook, unheard, was_current, froze_first, froze_one, froze_all, seeded_next, seeded_all, was_refused, was_stale, arrived, counts_own}
+use Rattle.register_law.proofs.MovesStep.{MoveTook, unheard, was_current, froze_first, froze_one, froze_all, seeded_next, seeded_all, was_refused, was_stale, arrived, counts_own, counts_asked}
 use Rattle.eventual_law.specs.Known.{by_request, by_life}
 use Rattle.eventual_law.specs.Epochs.{HereIs}
 use Rattle.eventual_law.specs.Held.{SwitchHeld, IsFrozenWith, FreezingHeld, SeedingHeld, IsHeldMove, InvOfEventual}

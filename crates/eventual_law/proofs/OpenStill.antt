@@ -1,5 +1,7 @@
 -- A move that goes on in its phase has too few answers; one that ends had a Gone, or the directory's answer.
 use Rattle.std.proofs.Common.{◌≡◌, ℕ, ◌+◌, ◌<◌, Bool, true, false, List, [], ◌∷◌, refl, sym, ◌∙◌, subst, arith}
+use Rattle.register_law.proofs.MovesStep.{counts_asked}
+use Rattle.register_law.proofs.Words.{none_in}
 use Rattle.std.specs.Prelude.{◌==◌, ◌^◌, nat_le, nat_lt, Contains, max, length, if◌then◌else◌, Option, Some, None}
 use Rattle.std.proofs.lemmas.Nat.{or_lt, pow_below}
 use Rattle.std.proofs.lemmas.Grind.{common_steps}
@@ -28,7 +30,7 @@ use Rattle.migration.specs.declared.stage.Stage.TheVariants as at
 use Rattle.migration.specs.Eventual.{eventual as eventual_rule}
 use Rattle.migration.specs.Move.{Moving, epoch_at, unchanged, waits, seeds, switches, freezes, looked, froze, seeded_one, refused_one, ends_at, ends_stale, ends_current}
 use Rattle.migration.specs.Move as move
-use Rattle.register_law.proofs.MovesTook.{counts_asked, none_in, within_good, better_some}
+use Rattle.register_law.proofs.MovesTook.{within_good, better_some}
 use Rattle.eventual_law.specs.Quiet.{IsOpenStill}
 use Rattle.std.proofs.lemmas.Bool.{lt-ltb}
 

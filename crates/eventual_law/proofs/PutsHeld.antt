@@ -1,5 +1,6 @@
 -- Every event keeps what the live puts of an eventual key rest on.
-use Rattle.std.proofs.Common.{◌≡◌, inl, inr, ℕ, ◌+◌, Bool, true, List, refl, sym, ap, ◌∙◌, subst, arith}
+use Rattle.std.proofs.Common.{◌≡◌, inl, inr, ℕ, ◌+◌, Bool, true, List, refl, sym, ap, ◌∙◌, subst, arith, false}
+use Rattle.register_law.proofs.Words.{none_in}
 use Rattle.std.specs.Prelude.{Some, Contains}
 use Rattle.span_base.specs.DcSet.{has}
 use Rattle.span_base.specs.PolicyParts.{faults_of, replicas_of}
@@ -34,10 +35,10 @@ use Rattle.register_law.specs.Tags.{IsLiveAt, TagsTellApart, request_key}
 use Rattle.register_law.specs.Cases.{Happened, Started, CallTook, next_call}
 use Rattle.register_law.proofs.Basics.{Each, WasPosted, each_map, sent_cases, point_of}
 use Rattle.register_law.proofs.EndsKinds.{taken_key}
-use Rattle.register_law.proofs.MovesTook.{none_in, within_good}
-use Rattle.register_law.proofs.CallsRows.{opens_move, opens_get, opens_put, opens_eventual_move, opens, opens_read, opens_write, OpensAs}
+use Rattle.register_law.proofs.MovesTook.{within_good}
+use Rattle.register_law.proofs.CallsRows.{opens_get, opens_put, OpensAs, opens_get_any}
 use Rattle.register_law.proofs.MovesStep.{counts_own}
-use Rattle.register_law.proofs.TagsCalls.{LiveIs, was_live, begins, went_on, taken_of, live_after, IsFresh, started_opens, next_is_none}
+use Rattle.register_law.proofs.TagsCalls.{LiveIs, was_live, begins, went_on, taken_of, live_after, IsFresh, started_opens, next_is_none, started_as}
 use Rattle.register_law.proofs.TagsSent.{Posted, replies, opens as posted_opens, asks, posted}
 use Rattle.eventual_law.specs.Kinds.{shape}
 use Rattle.eventual_law.specs.Held.{IsPushUnder, PutHeld, InvOfEventual}
@@ -144,20 +145,19 @@ put_begins tag at view ticket value = record {
   pushes = each_map (IsPushUnder view.key ticket) (eventual.push_to tag at.0 view ticket value) (λ p. record { onward = onward_of view.policy at.0 p; value = value; is = refl }) (directs_below view.policy at.0 16);
 }
 
-begins_by : (strongly : Bool) (tag : Tag) (at : DcId) (view : View) (drawn : Stamp) (work : Work) (taken : Taken) (call : Eventually) (ticket : Stamp) → OpensAs strongly tag at view drawn work taken → Eventual call ≡ taken.state → call.stage ≡ Putting ticket → (ticket ≡ drawn) × PutBegins tag view drawn call taken.out.posts
-begins_by strongly tag at view drawn work taken call ticket (opens_read member strong_is work_is of is) e stage = absurd (let z : Eventual call ≡ Strong _ = e ∙ ap (λ (x : Taken). x.state) is in cc)
-begins_by strongly tag at view drawn work taken call ticket (opens_write member value strong_is work_is of is) e stage = absurd (let z : Eventual call ≡ Strong _ = e ∙ ap (λ (x : Taken). x.state) is in cc)
-begins_by strongly tag at view drawn work taken call ticket (opens_move strong_is work_is is) e stage = absurd (let z : Eventual call ≡ StrongMove _ = e ∙ ap (λ (x : Taken). x.state) is in cc)
-begins_by strongly tag at view drawn work taken call ticket (opens_get any strong_is work_is is) e stage =
-    absurd (let z : call ≡ (eventual.opened_get tag at.0 view any).state = eventual_same call (eventual.opened_get tag at.0 view any).state (e ∙ ap (λ (x : Taken). x.state) is) in
-    let y : Getting ≡ Putting ticket = ap (λ (x : Eventually). x.stage) (sym z) ∙ stage in cc)
-begins_by strongly tag at view drawn work taken call ticket (opens_put value strong_is work_is is) e stage =
-    let z : call ≡ (eventual.opened_put tag at.0 view drawn value).state = eventual_same call (eventual.opened_put tag at.0 view drawn value).state (e ∙ ap (λ (x : Taken). x.state) is) in (
-      is_put call tag at view drawn ticket value z stage,
-      subst (λ (x : Eventually). PutBegins tag view drawn x taken.out.posts) (sym z)
-          (subst (λ (x : Taken). PutBegins tag view drawn (eventual.opened_put tag at.0 view drawn value).state x.out.posts) (sym is) (put_begins tag at view drawn value)),
-    )
-begins_by strongly tag at view drawn work taken call ticket (opens_eventual_move strong_is work_is is) e stage = absurd (let z : Eventual call ≡ EventualMove _ = e ∙ ap (λ (x : Taken). x.state) is in cc)
+-- a get puts nothing
+gets_never : (call : Eventually) (tag : Tag) (at : DcId) (view : View) (any : Bool) (ticket : Stamp) → Eventual call ≡ Eventual (eventual.opened_get tag at.0 view any).state → call.stage ≡ Putting ticket → ⊥
+gets_never call tag at view any ticket e stage =
+    let y : Getting ≡ Putting ticket = ap (λ (x : Eventually). x.stage) (sym (eventual_same call (eventual.opened_get tag at.0 view any).state e)) ∙ stage in
+    cc
+
+begins_by : (tag : Tag) (at : DcId) (view : View) (drawn : Stamp) (strongly : Bool) (work : Work) (taken : Taken) (call : Eventually) (ticket : Stamp) → OpensAs tag at view drawn strongly work taken → Eventual call ≡ taken.state → call.stage ≡ Putting ticket → (ticket ≡ drawn) × PutBegins tag view drawn call taken.out.posts
+begins_by tag at view drawn strongly work taken call ticket opens_get e stage = absurd (gets_never call tag at view false ticket e stage)
+begins_by tag at view drawn strongly work taken call ticket opens_get_any e stage = absurd (gets_never call tag at view true ticket e stage)
+begins_by tag at view drawn strongly work taken call ticket (opens_put value) e stage =
+    let z : call ≡ (eventual.opened_put tag at.0 view drawn value).state = eventual_same call (eventual.opened_put tag at.0 view drawn value).state e in
+    (is_put call tag at view drawn ticket value z stage, subst (λ (x : Eventually). PutBegins tag view drawn x (eventual.opened_put tag at.0 view drawn value).out.posts) (sym z) (put_begins tag at view drawn value))
+begins_by tag at view drawn strongly work taken call ticket _ e stage = absurd (cc)
 
 put_began : (key : KeyId) (s : Store) (g : Ghost) (h : Happening) → Happened s h → InvOfEventual key s g → Grows key s g h.store (noted_of key s h g) → (p : ℕ) (on : KeyId) (work : Work) (st : Started s p on work h) (call : Eventually) (ticket : Stamp) → Eventual call ≡ st.taken.state → call.key ≡ key → call.stage ≡ Putting ticket
     → PutHeld key h.store (noted_of key s h g) call ticket
@@ -185,7 +185,7 @@ put_began key s g h is inv grows p on work st call ticket new at stage =
     tag = first_tag (next_call s p) st.handle
 
     b : (ticket ≡ drawn) × PutBegins tag view drawn call st.taken.out.posts
-    b = begins_by (is_strong_key s on) tag (proxy_at s p).at view drawn work st.taken call ticket (opens (is_strong_key s on) tag (proxy_at s p).at view drawn work st.taken st.first) new stage
+    b = begins_by tag (proxy_at s p).at view drawn (is_strong_key s on) work st.taken call ticket (started_as s p on work h st) new stage
 
     keyed : view.key ≡ key
     keyed = sym (started_opens s p on work h st).key_is ∙ ap key_of_call (sym new) ∙ at

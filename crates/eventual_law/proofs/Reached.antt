@@ -1,5 +1,7 @@
 -- Every event keeps it that pushes go to replicas of their epoch, and that each version has reached one.
 use Rattle.std.proofs.Common.{◌≡◌, inl, inr, ℕ, true, false, List, refl, ◌++◌, sym, ap, ◌∙◌, subst}
+use Rattle.std.proofs.lemmas.Option.{same_Some}
+use Rattle.register_law.proofs.Words.{IsAtMost-refl}
 use Rattle.std.specs.Prelude.{Contains}
 use Rattle.span_base.specs.DcSet.{has}
 use Rattle.span_base.specs.PolicyParts.{replicas_of}
@@ -22,10 +24,9 @@ use Rattle.register_law.specs.Ghost.{Ghost, noted_of}
 use Rattle.register_law.specs.Seen.{Grows}
 use Rattle.register_law.specs.Cases.{Happened, next_call}
 use Rattle.register_law.proofs.AnswersPairs.{reaches_before}
-use Rattle.register_law.proofs.Growth.{at_most_itself}
 use Rattle.register_law.proofs.MovesKept.{by_start, by_replica, by_directory, Posted, by_call, posted}
-use Rattle.register_law.proofs.Basics.{sent_or_posted, same_some}
-use Rattle.register_law.proofs.TagsCalls.{started_opens}
+use Rattle.register_law.proofs.Basics.{sent_or_posted}
+use Rattle.register_law.proofs.TagsCalls.{started_opens, started_as}
 use Rattle.register_law.proofs.TagsSent.{call_sends}
 use Rattle.register_law.specs.Tags.{IsPushFree}
 use Rattle.eventual_law.specs.Known.{CallsHaveKeys}
@@ -36,7 +37,6 @@ use Rattle.eventual_law.proofs.KeptNow.{KeptNow, kept_still, by_seed, by_push, k
 use Rattle.eventual_law.proofs.Versions.{versions_kept}
 use Rattle.eventual_law.proofs.Routed.{IsAimed, push_post, start_aimed, step_passes}
 use Rattle.eventual_law.proofs.HeldStays.{replica_stays, version_stays}
-use Rattle.register_law.proofs.CallsRows.{opens}
 
 routed_stays : (key : KeyId) (s : Store) (g : Ghost) (h : Happening) → InvOfEventual key s g → Grows key s g h.store (noted_of key s h g) → (d : ℕ) (stamp : Stamp) (onward : DcSet) → IsRouted key s g d stamp onward → IsRouted key h.store (noted_of key s h g) d stamp onward
 routed_stays key s g h inv grows d stamp onward was =
@@ -66,11 +66,11 @@ routed_now key s g h inv d tag stamp onward value (by_start p on work st c) =
     let view : View = view_at (proxy_at s p).views on in
     let drawn : Stamp = ticket_of (proxy_at s p) view (next_call s p) in
     let first : Tag = first_tag (next_call s p) st.handle in
-    let keyed : view.key ≡ key = same_some view.key key (sym ((started_opens s p on work h st).requests (push_post d tag key stamp onward value) c).1) in
+    let keyed : view.key ≡ key = same_Some view.key key (sym ((started_opens s p on work h st).requests (push_post d tag key stamp onward value) c).1) in
     let same : on ≡ key = start_key key s h p on work inv.known.kinds st keyed in
     let not_strong : is_strong_key s on ≡ false = ap (λ (x : KeyId). is_strong_key s x) same ∙ inv.known.kinds.eventual in
     let known = subst (λ (x : KeyId). Contains g.opened (view_at (proxy_at s p).views x).epoch × ((view_at (proxy_at s p).views x).policy ≡ policy_of s key (view_at (proxy_at s p).views x).epoch)) (sym same) (inv.views p st.exists) in
-    let a = start_aimed (is_strong_key s on) first (proxy_at s p).at view drawn work st.taken not_strong (opens (is_strong_key s on) first (proxy_at s p).at view drawn work st.taken st.first) d tag key stamp onward value c in
+    let a = start_aimed first (proxy_at s p).at view drawn (is_strong_key s on) work st.taken not_strong (started_as s p on work h st) d tag key stamp onward value c in
     aimed_is key s g view drawn d stamp onward refl known.0 known.1 a
 routed_now key s g h inv d tag stamp onward value (by_replica n from sent c) =
     let p = step_passes (replica_at s n).state from (replica.request_key from) d tag key stamp onward value c in
@@ -90,7 +90,7 @@ reached_now key s g h inv grows d (by_seed tag epoch stamp held sent version val
     subst (IsReached key h.store (noted_of key s h g)) (sym version) (version_stays key s g h.store (noted_of key s h g) stamp grows inv.epochs.published (inv.versions.versions.seeded tag epoch stamp held sent))
 reached_now key s g h inv grows d (by_push tag stamp onward held sent open_still version value) =
     let routed = routed_stays key s g h inv grows d stamp onward (inv.versions.pushed d tag stamp onward held sent) in
-    let has_it : IsAtMost stamp (kept_of h.store d key).version = subst (IsAtMost stamp) (sym version) (at_most_itself stamp) in
+    let has_it : IsAtMost stamp (kept_of h.store d key).version = subst (IsAtMost stamp) (sym version) (IsAtMost-refl stamp) in
     subst (IsReached key h.store (noted_of key s h g)) (sym version)
     (inr (record { opened = routed.opened; d = d; of_policy = routed.here; reached = reaches_before key h.store (noted_of key s h g) d stamp.epoch stamp (record { open_still = open_still; has = has_it }) }))
 

@@ -1,5 +1,6 @@
 -- Where the pushes of an eventual key go: a put sends them to replicas of its view, and a replica passes them on to those that it is told.
 use Rattle.std.proofs.Common.{◌≡◌, inl, inr, ℕ, ◌==◌, ◌&&◌, Bool, true, false, List, ◌++◌, refl, sym, ap, ◌∙◌, subst}
+use Rattle.register_law.proofs.Words.{and_left, and_right}
 use Rattle.std.specs.Prelude.{nat_lt, not, if◌then◌else◌, Option, Some, None, Contains}
 use Rattle.std.specs.List.{range_with_len}
 use Rattle.std.proofs.lemmas.List.Elements.{All-contains, Contains-append_cases, filter_passes}
@@ -26,9 +27,8 @@ use Rattle.replica_core.specs.Answering.{gone, done, push_to, pushes_to, push_po
 use Rattle.replica_core.specs.Rule as replica
 use Rattle.run_marks.specs.declared.mark.Work.{Work}
 use Rattle.world_core.specs.Calls.{Taken}
-use Rattle.register_law.proofs.Basics.{each_to}
-use Rattle.register_law.proofs.CallsRows.{opens_move, opens_get, opens_put, opens_eventual_move, opens_read, opens_write, OpensAs}
-use Rattle.register_law.proofs.Quorums.{and_left, and_right}
+use Rattle.register_law.proofs.Basics.{each_to, each_look}
+use Rattle.register_law.proofs.CallsRows.{opens_get, opens_put, opens_eventual_move, OpensAs, opens_get_any}
 use Rattle.register_order.proofs.Members.{none_among, only}
 use Rattle.eventual_law.proofs.Lists.{in_map}
 
@@ -76,18 +76,15 @@ abbrev IsNoPush : Message → Type 0
 IsNoPush (m.Push tag key stamp onward value) = ⊥
 IsNoPush _ = Unit {0}
 
-pub start_aimed : (strongly : Bool) (tag : Tag) (at : DcId) (view : View) (ticket : Stamp) (work : Work) (taken : Taken) → strongly ≡ false → OpensAs strongly tag at view ticket work taken → (d : ℕ) (own : Tag) (key : KeyId) (stamp : Stamp) (onward : DcSet) (value : List ℕ)
+pub start_aimed : (tag : Tag) (at : DcId) (view : View) (ticket : Stamp) (strongly : Bool) (work : Work) (taken : Taken) → strongly ≡ false → OpensAs tag at view ticket strongly work taken → (d : ℕ) (own : Tag) (key : KeyId) (stamp : Stamp) (onward : DcSet) (value : List ℕ)
     → Contains taken.out.posts (push_post d own key stamp onward value) → IsAimed view ticket d key stamp onward
-start_aimed strongly tag at view ticket work taken not_strong (opens_read member strong_is work_is of is) d own key stamp onward value c = absurd (cc)
-start_aimed strongly tag at view ticket work taken not_strong (opens_write member held strong_is work_is of is) d own key stamp onward value c = absurd (cc)
-start_aimed strongly tag at view ticket work taken not_strong (opens_move strong_is work_is is) d own key stamp onward value c = absurd (cc)
-start_aimed strongly tag at view ticket work taken not_strong (opens_get any strong_is work_is is) d own key stamp onward value c =
-    absurd (each_to IsNoPush (eventual.asked_of view at.0 any) (m.Read tag view.key view.epoch) tt (push_post d own key stamp onward value) (subst (λ (x : Taken). Contains x.out.posts (push_post d own key stamp onward value)) is c))
-start_aimed strongly tag at view ticket work taken not_strong (opens_put held strong_is work_is is) d own key stamp onward value c =
-    aimed tag at view ticket held d own key stamp onward value (subst (λ (x : Taken). Contains x.out.posts (push_post d own key stamp onward value)) is c)
-start_aimed strongly tag at view ticket work taken not_strong (opens_eventual_move strong_is work_is is) d own key stamp onward value c =
-    absurd (let e = only (record { to = to.Directory; message = m.Lookup tag view.key }) (push_post d own key stamp onward value) (subst (λ (x : Taken). Contains x.out.posts (push_post d own key stamp onward value)) is c) in
-    let z : m.Push own key stamp onward value ≡ m.Lookup tag view.key = ap (λ (x : Post). x.message) e in cc)
+start_aimed tag at view ticket strongly work taken not_strong opens_get d own key stamp onward value c =
+    absurd (each_to IsNoPush (eventual.asked_of view at.0 false) (m.Read tag view.key view.epoch) tt (push_post d own key stamp onward value) c)
+start_aimed tag at view ticket strongly work taken not_strong opens_get_any d own key stamp onward value c =
+    absurd (each_to IsNoPush (eventual.asked_of view at.0 true) (m.Read tag view.key view.epoch) tt (push_post d own key stamp onward value) c)
+start_aimed tag at view ticket strongly work taken not_strong (opens_put held) d own key stamp onward value c = aimed tag at view ticket held d own key stamp onward value c
+start_aimed tag at view ticket strongly work taken not_strong opens_eventual_move d own key stamp onward value c = absurd (each_look IsNoPush tag view.key tt (push_post d own key stamp onward value) c)
+start_aimed tag at view ticket strongly work taken not_strong _ d own key stamp onward value c = absurd (cc)
 
 -- a push that a replica passes on
 pub record IsPassed (from : Message) (d : ℕ) (key : KeyId) (stamp : Stamp) (onward : DcSet) : Type 0 where

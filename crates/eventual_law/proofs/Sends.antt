@@ -1,5 +1,6 @@
 -- What an event sends of an eventual key.
 use Rattle.std.proofs.Common.{◌≡◌, inl, inr, ℕ, List, [], refl, sym, ap, ◌∙◌, subst}
+use Rattle.std.proofs.lemmas.Option.{same_Some}
 use Rattle.std.specs.Prelude.{Some, None, Contains}
 use Rattle.span_base.specs.declared.ids.KeyId.{KeyId}
 use Rattle.wire_msg.specs.declared.actor.Actor.TheVariants as to
@@ -19,7 +20,7 @@ use Rattle.world_core.specs.Step.{Happening, is_strong_key, handle_in}
 use Rattle.register_law.specs.Seen.{WasSent}
 use Rattle.register_law.specs.Tags.{request_key}
 use Rattle.register_law.specs.Cases.{Happened, Started, CallTook, next_call, ignored, replica_stopped, proxy_stopped, refused_at_once, started, replica_took, directory_took, proxy_learned, call_took, gave_up, published, not_published}
-use Rattle.register_law.proofs.Basics.{same_some, WasPosted}
+use Rattle.register_law.proofs.Basics.{WasPosted}
 use Rattle.register_law.proofs.TagsCalls.{taken_of, started_opens}
 use Rattle.register_law.proofs.TagsSent.{call_sends}
 use Rattle.register_order.proofs.Members.{none_among}
@@ -68,7 +69,7 @@ of_started key s h p at work message k st posted asked =
     let post : Post = record { to = posted.0; message = message } in
     let here = there h message st.taken.out.posts (ap (λ (x : Happening). x.posts) st.is) posted in
     let of : request_key message ≡ Some (view_at (proxy_at s p).views at).key = ((started_opens s p at work h st).requests post here).1 in
-    let same = start_key key s h p at work k st (same_some (view_at (proxy_at s p).views at).key key (sym of ∙ asked)) in
+    let same = start_key key s h p at work k st (same_Some (view_at (proxy_at s p).views at).key key (sym of ∙ asked)) in
     starts p at work st ((start_is_eventual key s h p at work k st same).sends post here)
 
 by_kind : (s : Store) (h : Happening) (p : ℕ) (taken message : Message) (call : LiveCall) (post : Post) → CallTook s p taken call h → IsOfEventual call → post.message ≡ message → Contains (taken_of s p taken call).out.posts post → Sends s h message
@@ -84,7 +85,7 @@ of_took key s h p taken message call k took posted asked =
     let sends = call_sends s p taken call in
     let is : message ≡ sends.message = sends.copies post here in
     let of : Some (key_of_call call) ≡ Some key = sym sends.at_key ∙ ap request_key (sym is) ∙ asked in
-    by_kind s h p taken message call post took (k.live_kinds p (handle_in taken) call took.live (same_some (key_of_call call) key of)) refl here
+    by_kind s h p taken message call post took (k.live_kinds p (handle_in taken) call took.live (same_Some (key_of_call call) key of)) refl here
 
 -- what any event sends of the key
 pub sends : (key : KeyId) (s : Store) (h : Happening) (message : Message) → Happened s h → KeyIsEventual key s → WasPosted h message → request_key message ≡ Some key → Sends s h message

@@ -1,5 +1,6 @@
 -- Every event keeps it that all requests of an eventual key under one tag are copies of one.
 use Rattle.std.proofs.Common.{◌≡◌, inl, inr, sym, ap, ◌∙◌, subst}
+use Rattle.std.proofs.lemmas.Option.{same_Some}
 use Rattle.std.specs.Prelude.{Some}
 use Rattle.span_base.specs.declared.ids.KeyId.{KeyId}
 use Rattle.wire_msg.specs.declared.message.Message.{Message}
@@ -15,7 +16,7 @@ use Rattle.world_core.specs.Step.{Happening, handle_in}
 use Rattle.register_law.specs.Seen.{WasSent}
 use Rattle.register_law.specs.Tags.{request_key}
 use Rattle.register_law.specs.Cases.{Happened, next_call, ignored, replica_stopped, proxy_stopped, refused_at_once, started, replica_took, directory_took, proxy_learned, call_took, gave_up, published, not_published}
-use Rattle.register_law.proofs.Basics.{same_some, point_of, WasPosted, sent_cases}
+use Rattle.register_law.proofs.Basics.{point_of, WasPosted, sent_cases}
 use Rattle.register_law.proofs.TagsCalls.{taken_of, IsFresh, started_opens, start_is_fresh, phase_is_fresh}
 use Rattle.register_law.proofs.TagsSent.{call_sends}
 use Rattle.eventual_law.specs.Kinds.{KeyIsEventual, shape}
@@ -74,7 +75,7 @@ both_new key s h a b (started p on work st) k x y at too =
     let posts = ap (λ (z : Happening). z.posts) st.is in
     let here = there h a st.taken.out.posts posts x in
     let of : request_key a ≡ Some (view_at (proxy_at s p).views on).key = ((started_opens s p on work h st).requests (record { to = x.0; message = a }) here).1 in
-    let same = start_key key s h p on work k st (same_some (view_at (proxy_at s p).views on).key key (sym of ∙ at)) in
+    let same = start_key key s h p on work k st (same_Some (view_at (proxy_at s p).views on).key key (sym of ∙ at)) in
     let first = start_is_eventual key s h p on work k st same in
     first.shaped (record { to = x.0; message = a }) here ∙ sym (first.shaped (record { to = y.0; message = b }) (there h b st.taken.out.posts posts y))
 both_new key s h a b (replica_took d from taken is) k x y at too =

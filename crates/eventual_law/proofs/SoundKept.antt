@@ -3,7 +3,7 @@ use Rattle.std.proofs.Common.{◌≡◌, ◌⊎◌, inl, inr, ℕ, ◌+◌, ◌-
 use Rattle.std.specs.Prelude.{◌==◌, not, nat_lt, if◌then◌else◌, length, find, option_map, unwrap_or, slice_get, slice_index_or, Option, Some, None, Ok, Err}
 use Rattle.std.specs.Option.{option_map_or}
 use Rattle.std.proofs.lemmas.Bool.{cases_lt, eqb-true}
-use Rattle.std.proofs.lemmas.List.{get_or_past}
+use Rattle.std.proofs.lemmas.List.{get_or_past, length_push}
 use Rattle.std.proofs.lemmas.List.Elements.{All-contains}
 use Rattle.span_base.specs.Policy.{IsSoundPolicy}
 use Rattle.span_base.specs.declared.ids.KeyId.{KeyId}
@@ -37,7 +37,6 @@ use Rattle.world_core.specs.Run.{IsHeader, MayHappen}
 use Rattle.register_law.specs.Ghost.{Ghost}
 use Rattle.register_law.specs.Cases.{Happened}
 use Rattle.register_law.proofs.Growth.{policy_stays}
-use Rattle.register_law.proofs.Basics.{one_more}
 use Rattle.register_law.proofs.Opening.{policy_is}
 use Rattle.span_base.proofs.Sets.{count-no_centre}
 use Rattle.eventual_law.specs.Keys.{IsEventualKey}
@@ -183,7 +182,7 @@ sound_kept key s g e h taken may is inv go n first last = by (tables_after s e h
         new_sound s.directory new.0 set next inv.known.kinds.eventual (go.sound 1 (omega arith) some) (go.sound (latest s.directory) some (omega arith)) in
         elim (cases_lt (latest s.directory) n) as (λ _. IsSoundEventual (policy_of h.store key n)) [
           | inl beyond ↦
-              (let len : latest h.store.directory ≡ latest s.directory + 1 = ap latest new.2 ∙ one_more s.directory.tables (table_after s.directory new.0) in
+              (let len : latest h.store.directory ≡ latest s.directory + 1 = ap latest new.2 ∙ length_push s.directory.tables (table_after s.directory new.0) in
               let at : n ≡ latest s.directory + 1 = omega arith in
               subst (λ i. IsSoundEventual (policy_of h.store key i)) (sym at) (subst (λ (x : State). IsSoundEventual (policy_in x (latest s.directory + 1) (set_of x key))) (sym new.2) now))
           | inr within ↦ old within

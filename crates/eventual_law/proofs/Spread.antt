@@ -1,5 +1,7 @@
 -- Every event keeps it that the put of each push has sent it to each replica that its member writes to.
 use Rattle.std.proofs.Common.{◌≡◌, inl, inr, ℕ, ◌<◌, Bool, true, false, List, refl, sym, ap, ◌∙◌, subst, arith}
+use Rattle.std.proofs.lemmas.Option.{same_Some}
+use Rattle.register_law.proofs.Words.{and_left}
 use Rattle.std.specs.Prelude.{◌==◌, Contains}
 use Rattle.std.specs.List.{range_with_len}
 use Rattle.span_base.specs.DcSet.{has}
@@ -26,14 +28,12 @@ use Rattle.world_core.specs.Step.{Happening, is_strong_key}
 use Rattle.register_law.specs.Ghost.{Ghost, noted_of}
 use Rattle.register_law.specs.Seen.{Grows}
 use Rattle.register_law.specs.Cases.{Happened, Started, next_call}
-use Rattle.register_law.proofs.Basics.{each_to, sent_or_posted, same_some}
+use Rattle.register_law.proofs.Basics.{each_to, sent_or_posted, each_look}
 use Rattle.register_law.proofs.MovesKept.{by_start, by_replica, by_directory, Posted, by_call, posted}
-use Rattle.register_law.proofs.CallsRows.{opens_move, opens_get, opens_put, opens_eventual_move, opens, opens_read, opens_write, OpensAs}
-use Rattle.register_law.proofs.Quorums.{and_left}
+use Rattle.register_law.proofs.CallsRows.{opens_get, opens_put, opens_eventual_move, OpensAs, opens_get_any}
 use Rattle.replica_core.specs.declared.kept.Kept.{Kept}
-use Rattle.register_law.proofs.TagsCalls.{started_opens}
+use Rattle.register_law.proofs.TagsCalls.{started_opens, started_as}
 use Rattle.register_law.proofs.TagsSent.{call_sends, posted_there}
-use Rattle.register_order.proofs.Members.{only}
 use Rattle.eventual_law.specs.Held.{InvOfEventual}
 use Rattle.eventual_law.specs.Quiet.{IsSpread, IsZeroOrPushed, MovesGoOn}
 use Rattle.eventual_law.proofs.Passed.{directory_replies}
@@ -73,22 +73,16 @@ stamp_of at view tag own ticket stamp held value d key onward c =
     let from = in_map (eventual.push_to tag at.0 view ticket held) (directs_below view.policy at.0 16) (push_post d own key stamp onward value) c in
     (same_post d from.0 own tag key view.key stamp ticket onward (onward_of view.policy at.0 from.0) value held from.2).2
 
-is_put : (strongly : Bool) (tag : Tag) (at : DcId) (view : View) (ticket : Stamp) (work : Work) (taken : Taken) → strongly ≡ false → OpensAs strongly tag at view ticket work taken → (d : ℕ) (own : Tag) (key : KeyId) (stamp : Stamp) (onward : DcSet) (value : List ℕ)
+is_put : (tag : Tag) (at : DcId) (view : View) (ticket : Stamp) (strongly : Bool) (work : Work) (taken : Taken) → strongly ≡ false → OpensAs tag at view ticket strongly work taken → (d : ℕ) (own : Tag) (key : KeyId) (stamp : Stamp) (onward : DcSet) (value : List ℕ)
     → Contains taken.out.posts (push_post d own key stamp onward value) → IsPut tag at view ticket taken stamp
-is_put strongly tag at view ticket work taken not_strong (opens_read member strong_is work_is of is) d own key stamp onward value c = absurd (cc)
-is_put strongly tag at view ticket work taken not_strong (opens_write member held strong_is work_is of is) d own key stamp onward value c = absurd (cc)
-is_put strongly tag at view ticket work taken not_strong (opens_move strong_is work_is is) d own key stamp onward value c = absurd (cc)
-is_put strongly tag at view ticket work taken not_strong (opens_get any strong_is work_is is) d own key stamp onward value c =
-    absurd (each_to IsNoPush (eventual.asked_of view at.0 any) (m.Read tag view.key view.epoch) tt (push_post d own key stamp onward value) (subst (λ (x : Taken). Contains x.out.posts (push_post d own key stamp onward value)) is c))
-is_put strongly tag at view ticket work taken not_strong (opens_put held strong_is work_is is) d own key stamp onward value c =
-    record {
-      value = held;
-      posts = ap (λ (x : Taken). x.out.posts) is;
-      stamp_is = stamp_of at view tag own ticket stamp held value d key onward (subst (λ (x : Taken). Contains x.out.posts (push_post d own key stamp onward value)) is c);
-    }
-is_put strongly tag at view ticket work taken not_strong (opens_eventual_move strong_is work_is is) d own key stamp onward value c =
-    absurd (let e = only (record { to = to.Directory; message = m.Lookup tag view.key }) (push_post d own key stamp onward value) (subst (λ (x : Taken). Contains x.out.posts (push_post d own key stamp onward value)) is c) in
-    let z : m.Push own key stamp onward value ≡ m.Lookup tag view.key = ap (λ (x : Post). x.message) e in cc)
+is_put tag at view ticket strongly work taken not_strong opens_get d own key stamp onward value c =
+    absurd (each_to IsNoPush (eventual.asked_of view at.0 false) (m.Read tag view.key view.epoch) tt (push_post d own key stamp onward value) c)
+is_put tag at view ticket strongly work taken not_strong opens_get_any d own key stamp onward value c =
+    absurd (each_to IsNoPush (eventual.asked_of view at.0 true) (m.Read tag view.key view.epoch) tt (push_post d own key stamp onward value) c)
+is_put tag at view ticket strongly work taken not_strong (opens_put held) d own key stamp onward value c =
+    record { value = held; posts = refl; stamp_is = stamp_of at view tag own ticket stamp held value d key onward c }
+is_put tag at view ticket strongly work taken not_strong opens_eventual_move d own key stamp onward value c = absurd (each_look IsNoPush tag view.key tt (push_post d own key stamp onward value) c)
+is_put tag at view ticket strongly work taken not_strong _ d own key stamp onward value c = absurd (cc)
 
 spread_stays : (key : KeyId) (s : Store) (g : Ghost) (z : Store) (h : Ghost) (stamp : Stamp) → Grows key s g z h → IsSpread key s stamp → IsSpread key z stamp
 spread_stays key s g z h stamp grows was = record {
@@ -126,7 +120,7 @@ begins_spread key s g h is inv grows p on work st d tag stamp onward value c = r
     first = first_tag (next_call s p) st.handle
 
     keyed : view.key ≡ key
-    keyed = same_some view.key key (sym ((started_opens s p on work h st).requests (push_post d tag key stamp onward value) c).1)
+    keyed = same_Some view.key key (sym ((started_opens s p on work h st).requests (push_post d tag key stamp onward value) c).1)
 
     same : on ≡ key
     same = start_key key s h p on work inv.known.kinds st keyed
@@ -135,7 +129,7 @@ begins_spread key s g h is inv grows p on work st d tag stamp onward value c = r
     not_strong = ap (λ (x : KeyId). is_strong_key s x) same ∙ inv.known.kinds.eventual
 
     put : IsPut first (proxy_at s p).at view drawn st.taken stamp
-    put = is_put (is_strong_key s on) first (proxy_at s p).at view drawn work st.taken not_strong (opens (is_strong_key s on) first (proxy_at s p).at view drawn work st.taken st.first) d tag key stamp onward value c
+    put = is_put first (proxy_at s p).at view drawn (is_strong_key s on) work st.taken not_strong (started_as s p on work h st) d tag key stamp onward value c
 
     known : Contains g.opened view.epoch × (view.policy ≡ policy_of s key view.epoch)
     known = subst (λ (x : KeyId). Contains g.opened (view_at (proxy_at s p).views x).epoch × ((view_at (proxy_at s p).views x).policy ≡ policy_of s key (view_at (proxy_at s p).views x).epoch)) (sym same) (inv.views p st.exists)

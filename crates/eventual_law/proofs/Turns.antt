@@ -19,8 +19,7 @@ use Rattle.migration.specs.Eventual.{eventual as eventual_rule}
 use Rattle.migration.specs.Move.{Moving}
 use Rattle.migration.specs.Move as move
 use Rattle.migration.specs.declared.stage.Stage.TheVariants as g
-use Rattle.register_law.proofs.CallsAnswers.{counts_is}
-use Rattle.register_law.proofs.MovesStep.{MoveTook, move_took, unheard, was_current, froze_first, froze_one, froze_all, seeded_next, seeded_all, was_refused, was_stale, arrived}
+use Rattle.register_law.proofs.MovesStep.{MoveTook, move_took, unheard, was_current, froze_first, froze_one, froze_all, seeded_next, seeded_all, was_refused, was_stale, arrived, counts_own}
 
 -- a get took a version that counted, and gives it
 pub record Gives (call : Eventually) (taken : Message) (stamp : Stamp) (value : List ℕ) : Type 0 where
@@ -38,7 +37,7 @@ have_gives : (stage : Stage) (call : Eventually) (tag : Tag) (replica : DcId) (v
 have_gives d.Getting call tag replica version mark stamp value given e =
     one_end (Gives call (m.Have tag replica version mark value) stamp given) (counts call.phase tag replica) (eventual.ends call (r.Value version value)) (eventual.stays call) (r.Value stamp given)
     (λ c z. let a : version ≡ stamp = cc in let b : value ≡ given = cc in
-    record { tag = tag; replica = replica; mark = mark; taken_is = ap (λ (x : Stamp). m.Have tag replica x mark value) a ∙ ap (λ (x : List ℕ). m.Have tag replica stamp mark x) b; own = (counts_is call.phase tag replica c).own })
+    record { tag = tag; replica = replica; mark = mark; taken_is = ap (λ (x : Stamp). m.Have tag replica x mark value) a ∙ ap (λ (x : List ℕ). m.Have tag replica stamp mark x) b; own = counts_own call.phase tag replica c })
     (λ z. absurd (cc)) e
 have_gives (d.Putting put) call tag replica version mark stamp value given e = absurd (cc)
 have_gives d.Ended call tag replica version mark stamp value given e = absurd (cc)

@@ -30,7 +30,6 @@ use Rattle.world_core.specs.Step.{Happening, handle_in}
 use Rattle.register_law.specs.Seen.{WasSent}
 use Rattle.register_law.specs.Tags.{IsLiveAt, request_key}
 use Rattle.register_law.specs.Cases.{Happened, CallTook}
-use Rattle.register_law.proofs.CallsAnswers.{counts_is}
 use Rattle.register_law.proofs.Basics.{sent_cases}
 use Rattle.register_law.proofs.EndsKinds.{taken_key}
 use Rattle.register_law.proofs.TagsCalls.{LiveIs, was_live, begins, went_on, taken_of, live_after, started_opens}
@@ -44,6 +43,7 @@ use Rattle.eventual_law.proofs.Takes as takes
 use Rattle.eventual_law.proofs.Sends.{Sends, passes, starts, calls, moves, sends, start_key, start_is_eventual}
 use Rattle.eventual_law.proofs.Shown.{Shown, shown}
 use Rattle.eventual_law.proofs.Finding.{FoundIs, found_is}
+use Rattle.register_law.proofs.MovesStep.{counts_own}
 
 -- what all of this rests on
 pub record Said (key : KeyId) (s : Store) (marks : List Mark) (P : Stamp → List ℕ → Type 0) : Type 0 where
@@ -83,7 +83,7 @@ better_said P (Some was) version value found f h e = one_said P (is_gt (stamp_cm
 finds_said : (key : KeyId) (s : Store) (h : Happening) (marks : List Mark) (P : Stamp → List ℕ → Type 0) (p : ℕ) (taken : Message) (call : Moving) (found : Found) → Said key s marks P → CallTook s p taken (EventualMove call) h → call.key ≡ key → Finds call taken found → P found.stamp found.value
 finds_said key s h marks P p taken call found k took at finds =
     let sent : WasSent s (m.Have finds.tag finds.replica finds.version finds.mark finds.value) = subst (WasSent s) finds.taken_is (to.Proxy p, took.sent) in
-    let own = (counts_is call.phase finds.tag finds.replica finds.counted).own in
+    let own = counts_own call.phase finds.tag finds.replica finds.counted in
     let now = had_by key s marks P p (handle_in taken) (EventualMove call) finds.tag finds.replica finds.version finds.mark finds.value k took.live at own sent in
     better_said P finds.best finds.version finds.value found (λ was is. k.versions.best p (handle_in taken) call finds.old finds.target was took.live at (finds.stage_is ∙ ap (λ (x : Option Found). stage.Freezing finds.old finds.target x) is)) now finds.is
 

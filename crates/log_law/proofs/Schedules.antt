@@ -1,5 +1,6 @@
 -- The values in a schedule that is read are values.
 use Rattle.std.proofs.Common.{◌≡◌, inl, inr, ℕ, ◌+◌, ◌≤◌, Bool, true, false, cond, ◌&&◌, List, [], ◌∷◌, length, Option, Some, None, Result, Ok, Err, refl, sym, subst, arith}
+use Rattle.register_law.proofs.Words.{and_right}
 use Rattle.std.specs.Prelude.{◌⊎◌, nat_le, codes, IfOk, Contains}
 use Rattle.std.specs.List.{list_all}
 use Rattle.std.proofs.lemmas.Bool.{leb-true}
@@ -9,7 +10,6 @@ use Rattle.hex.proofs.HexLemmas.{decode_of-ok}
 use Rattle.run_marks.specs.declared.mark.Work.{Work}
 use Rattle.run_marks.specs.declared.mark.Work.TheVariants as work
 use Rattle.register_order.proofs.Members.{among, none_among}
-use Rattle.register_law.proofs.Quorums.{and_right}
 use Rattle.epoch_directory.specs.declared.table.SetPolicy.{SetPolicy}
 use Rattle.world_core.specs.declared.event.Event.{Event}
 use Rattle.world_core.specs.declared.event.Event.TheVariants as event

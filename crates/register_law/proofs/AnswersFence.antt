@@ -1,5 +1,6 @@
 -- Every event keeps what the answers to the first phase of a leg tell: its replicas, and their fences.
 use Rattle.std.proofs.Common.{◌≡◌, ◌⊎◌, inl, inr, ℕ, ◌<◌, ◌≤◌, true, List, refl, sym, ap, ◌∙◌, subst, arith, Option, Some, None, IsSome, Contains}
+use Rattle.std.proofs.lemmas.Option.{same_Some}
 use Rattle.register_law.proofs.Words.{KeyId, IsAbove, IsAtMost, grants, Stamp, tag_of, Message, Tag, Rises, key_of, Kept, Store, kept_of, Happening, Happened, Ghost, noted_of, Inv, IsLegRequest, IsTicketIn, IsTagOf, WasSent, IsSamePoint, request_key, Call, stamp_zero, Post, CallState, Handle, key_of_call, tag_of_call, ticket_of, proxy_at, view_at, handle_in, LiveCall, Strong, next_call, IsLiveStrong, WasAsked, IsTicketOf, IsLiveAt, common_steps, IsAtMost-trans, none_among, NotedLeg as Leg}
 use Rattle.ticket_rules.proofs.StampOrder.{IsAbove-trans, IsAtMost-cases}
 use Rattle.wire_msg.specs.declared.message.Message.TheVariants as m
@@ -11,7 +12,6 @@ use Rattle.register_law.proofs.RequestsLegs.{IsNew, legs_are, leg_request_after}
 use Rattle.register_law.proofs.AnswersTold.{Replied, both_sent, now_replied, pair_is, before_of, legs_before, read_replied, ask_replied}
 use Rattle.register_law.proofs.TagsSends.{ticket_asked}
 use Rattle.register_law.proofs.TagsSteps.{AsksAfter, may_ask}
-use Rattle.register_law.proofs.Basics.{same_some}
 use Rattle.register_law.proofs.TagsCalls.{started_opens, next_is_none}
 use Rattle.register_law.proofs.ReplicasKept.{fence_after, fence_from}
 
@@ -138,7 +138,7 @@ ask_from key s g h post tag stamp inv (of_start p k work st e) c is =
     let first = started_opens s p k work h st in
     let there = subst (λ (x : List Post). Contains x post) e c in
     let two = first.requests post there in
-    let keyed : (view_at (proxy_at s p).views k).key ≡ key = same_some (view_at (proxy_at s p).views k).key key (sym two.1 ∙ ap request_key is) in
+    let keyed : (view_at (proxy_at s p).views k).key ≡ key = same_Some (view_at (proxy_at s p).views k).key key (sym two.1 ∙ ap request_key is) in
     let one = first.one (start_strong key s g h p k work (before_of key s g inv) st keyed) in
     let ticket : stamp ≡ ticket_of (proxy_at s p) (view_at (proxy_at s p).views k) (next_call s p) = one.asks stamp (ap ticket_asked (sym (one.copies post there)) ∙ ap ticket_asked is) in
     let call : tag.call ≡ next_call s p = ap (λ (x : Message). (tag_of x).call) (sym is) ∙ ap (λ (t : Tag). t.call) two.0 in
@@ -148,7 +148,7 @@ ask_from key s g h post tag stamp inv (of_call p message call took e) c is =
     let one = call_sends s p message call in
     let there = one.copies post (subst (λ (x : List Post). Contains x post) e c) in
     let may : may_ask call stamp = one.asks stamp (ap ticket_asked (sym there) ∙ ap ticket_asked is) in
-    let keyed : key_of_call call ≡ key = same_some (key_of_call call) key (sym one.at_key ∙ ap request_key (sym there) ∙ ap request_key is) in
+    let keyed : key_of_call call ≡ key = same_Some (key_of_call call) key (sym one.at_key ∙ ap request_key (sym there) ∙ ap request_key is) in
     let of : tag.call ≡ (tag_of_call call).call = ap (λ (x : Message). (tag_of x).call) (sym is ∙ there) ∙ ap (λ (t : Tag). t.call) one.tagged in
     asks_at_leg key s p (handle_in message) call tag stamp took.live keyed of may
 

@@ -1,10 +1,10 @@
 -- Every event keeps what the answers of replicas tell.
 use Rattle.std.proofs.Common.{◌≡◌, ℕ, ◌≤◌, Bool, true, false, List, refl, sym, ap, subst, arith, nat_lt, nat_le, max, ◌&&◌, if◌then◌else◌}
 use Rattle.std.proofs.lemmas.Bool.{lt-ltb, le-ltb, ltb-false, le-leb}
-use Rattle.register_law.proofs.Words.{KeyId, IsAtMost, Stamp, Tag, Kept, Store, kept_of, Happening, Happened, Ghost, noted_of, Inv, Grows, IsKept, IsKnown, WasSent, version_before, IsAtMost-trans}
+use Rattle.register_law.proofs.Words.{KeyId, IsAtMost, Stamp, Tag, Kept, Store, kept_of, Happening, Happened, Ghost, noted_of, Inv, Grows, IsKept, IsKnown, WasSent, version_before, IsAtMost-trans, IsAtMost-refl}
 use Rattle.wire_msg.specs.declared.message.Message.TheVariants as m
 use Rattle.register_law.proofs.MovesStable.{known_stays, kept_stays}
-use Rattle.register_law.proofs.Growth.{at_most_itself, grows_by}
+use Rattle.register_law.proofs.Growth.{grows_by}
 use Rattle.register_law.proofs.Basics.{point_of}
 use Rattle.register_law.proofs.AnswersTold.{both_sent, now_replied, pair_is, Reaches, Shows, Froze, read_replied, freeze_replied, store_replied, repair_replied, seed_replied}
 use Rattle.register_law.specs.Replicas.{AnswersTell}
@@ -43,7 +43,7 @@ yes_seed_after key s g h is inv tag d epoch stamp value asked told =
 
 pub before_by : (a b c : Bool) (new version fixed : Stamp) → a ≡ false → c ≡ true → (b ≡ false → IsAtMost fixed version) → IsAtMost (if a then new else (if b && c then version else fixed)) version
 before_by true b c new version fixed is reached f = absurd (cc)
-before_by false true true new version fixed is reached f = at_most_itself version
+before_by false true true new version fixed is reached f = IsAtMost-refl version
 before_by false true false new version fixed is reached f = absurd (cc)
 before_by false false c new version fixed is reached f = f refl
 

@@ -1,29 +1,19 @@
 -- Small facts on tests, options, names and tags; what an event made and sent, and what holds of each message of a list.
-use Rattle.std.proofs.Common.{◌≡◌, ℕ, true, arith, ap, ◌<◌, false, Bool, refl, ◌∙◌, ◌+◌, List, [], ◌∷◌, ◌++◌, sym, ◌≢◌, if◌then◌else◌, ◌==◌, nat_lt, not, Option, Some, None, IsSome, length, suc, map, ◌&&◌, ◌⊎◌, subst, inl, inr, Contains}
+use Rattle.std.proofs.Common.{◌≡◌, ℕ, true, arith, ap, ◌<◌, false, Bool, refl, ◌∙◌, ◌+◌, List, [], ◌∷◌, ◌++◌, sym, if◌then◌else◌, ◌==◌, nat_lt, not, Option, Some, None, IsSome, map, ◌&&◌, ◌⊎◌, subst, inl, inr, Contains, eqb-true}
 use Rattle.std.proofs.lemmas.Bool.{eqb-true, eq-eqb}
-use Rattle.register_law.proofs.Words.{is_register_work, Work, is_noted, KeyId, Stamp, Begun, Tag, IsSamePoint, common_steps, Post, Store, Happening, Happened, call_took, directory_took, proxy_learned, refused_at_once, replica_took, started, centres_of, DcSet, Actor, Message, post_to, posts_to, WasSent, Contains-append_left, Contains-append_cases, append-nil, among, latest, after_publish, after_take, tag_of_call, learned, ends_at_once, enters, proxy_at, replica_at, call_takes, only_learns, with_proxy, with_replica, did, gave_up, ignored, next_call, not_published, proxy_stopped, published, quietly, replica_stopped, view_at}
+use Rattle.register_law.proofs.Words.{is_register_work, Work, is_noted, KeyId, Stamp, Begun, Tag, IsSamePoint, common_steps, Post, Store, Happening, Happened, call_took, directory_took, proxy_learned, refused_at_once, replica_took, started, centres_of, DcSet, Actor, Message, post_to, posts_to, WasSent, Contains-append_left, Contains-append_cases, append-nil, among, latest, after_publish, after_take, tag_of_call, learned, ends_at_once, enters, proxy_at, replica_at, call_takes, only_learns, with_proxy, with_replica, did, gave_up, ignored, next_call, not_published, proxy_stopped, published, quietly, replica_stopped, view_at, and_left, and_right}
 use Rattle.run_marks.specs.declared.mark.Work.TheVariants as w
 use Rattle.wire_msg.specs.declared.outputs.Reply.TheVariants as r
 use Rattle.run_marks.specs.declared.mark.Mark.TheVariants as k
+use Rattle.wire_msg.specs.declared.actor.Actor.TheVariants as to
+use Rattle.wire_msg.specs.declared.message.Message.TheVariants as m
 use Rattle.replica_core.specs.Rule as replica
 use Rattle.epoch_directory.specs.Step as directory_step
 use Rattle.world_core.specs.Starting.{ticket_of}
 use Rattle.world_core.specs.Step.{with_sent}
 
-pub equal_is : (a b : ℕ) → (a == b) ≡ true → a ≡ b
-equal_is a b h = grind (arith, common_steps)
-
-pub same_number : (n : ℕ) → (n == n) ≡ true
-same_number n = grind (arith, common_steps)
-
-pub same_key : (a b : KeyId) → a.0 ≡ b.0 → a ≡ b
-same_key a b e = ap (λ n. let k : KeyId = record { 0 = n } in k) e
-
 pub key_is : (a b : KeyId) → (a.0 == b.0) ≡ true → a ≡ b
-key_is a b h = ap (λ n. let x : KeyId = record { 0 = n } in x) (equal_is a.0 b.0 h)
-
-pub less_is : (a b : ℕ) → nat_lt a b ≡ true → a < b
-less_is a b h = grind (arith, common_steps)
+key_is a b h = ap (λ n. let x : KeyId = record { 0 = n } in x) (eqb-true a.0 b.0 h)
 
 pub within_is : (a b : ℕ) → not (nat_lt a b) ≡ false → a < b
 within_is a b h = grind (arith, common_steps)
@@ -43,17 +33,6 @@ pub is_some_of : (o : Option Begun) (b : Begun) → o ≡ Some b → IsSome o
 is_some_of None b e = absurd (cc)
 is_some_of (Some x) b e = refl
 
-pub some_stamp : (a b : Stamp) → Some a ≡ Some b → a ≡ b
-some_stamp a b e = cc
-
-pub one_more : {X : Type 0} → (xs : List X) (y : X) → length (xs ++ y ∷ []) ≡ length xs + 1
-one_more {X} [] y = refl
-one_more {X} (x ∷ xs) y = let h = one_more xs y in omega arith
-
-pub mapped_length : {X Y : Type 0} → (f : X → Y) (xs : List X) → length (map f xs) ≡ length xs
-mapped_length {X} {Y} f [] = refl
-mapped_length {X} {Y} f (x ∷ xs) = ap suc (mapped_length f xs)
-
 -- of two things one
 pub either : {X : Type 0} → (P : X → Type 0) (b : Bool) (one other : X) → P one → P other → P (if b then one else other)
 either {X} P true one other p q = p
@@ -67,16 +46,9 @@ register_noted work h = absurd (cc)
 
 -- ---- tests that say that two keys or calls are one, and tags of one phase of one call
 
-pub same_some : (a b : KeyId) → Some a ≡ Some b → a ≡ b
-same_some a b e = cc
-
-both_true : (a b : Bool) → (a && b) ≡ true → (a ≡ true) × (b ≡ true)
-both_true true b h = (refl, h)
-both_true false b h = absurd (cc)
-
 -- both tests say so
 pub both_equal : (a b c d : ℕ) → ((a == b) && (c == d)) ≡ true → (a ≡ b) × (c ≡ d)
-both_equal a b c d h = let two = both_true (a == b) (c == d) h in (eqb-true a b two.0, eqb-true c d two.1)
+both_equal a b c d h = (eqb-true a b (and_left (a == b) (c == d) h), eqb-true c d (and_right (a == b) (c == d) h))
 
 pub is_itself : (a b : ℕ) → ((a == a) && (b == b)) ≡ true
 is_itself a b = rw (eq-eqb a a refl, eq-eqb b b refl) refl
@@ -91,12 +63,6 @@ pub joined : (a b c : Tag) → IsSamePoint a b → IsSamePoint b c → IsSamePoi
 joined a b c one two = record { call = one.call ∙ two.call; phase = one.phase ∙ two.phase }
 
 -- ---- numbers, keys and tests that agree
-
-pub apart_is : (a b : ℕ) → (a == b) ≡ false → a ≢ b
-apart_is a b h = grind (arith, common_steps)
-
-pub some_key : (a b : KeyId) → Some a ≡ Some b → b ≡ a
-some_key a b e = cc
 
 -- ---- what an event made, by what it was: the one equation that every case has
 
@@ -178,6 +144,13 @@ each_map P f all (d ∷ ds) = each_more P (f d) (map f ds) (all d) (each_map P f
 
 pub each_to : (P : Message → Type 0) (set : DcSet) (message : Message) → P message → Each P (posts_to set message)
 each_to P set message h = each_map P (post_to message) (λ d. h) (centres_of set)
+
+-- a Lookup alone
+pub each_look : (P : Message → Type 0) (tag : Tag) (key : KeyId) → P (m.Lookup tag key) → Each P (record { to = to.Directory; message = m.Lookup tag key } ∷ [])
+each_look P tag key h = each_one P (record { to = to.Directory; message = m.Lookup tag key }) h
+
+pub each_weaker : (P Q : Message → Type 0) → ((message : Message) → P message → Q message) → (posts : List Post) → Each P posts → Each Q posts
+each_weaker P Q f posts each post c = f post.message (each post c)
 
 pub each_append : (P : Message → Type 0) (one other : List Post) → Each P one → Each P other → Each P (one ++ other)
 each_append P one other h k post c = elim (Contains-append_cases one other post c) as (λ _. P post.message) [ inl a ↦ h post a | inr b ↦ k post b ]

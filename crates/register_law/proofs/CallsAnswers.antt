@@ -1,47 +1,20 @@
 -- An answer that counts keeps what a read or a write rests on.
-use Rattle.std.proofs.Common.{◌≡◌, inl, inr, ℕ, ◌<◌, Bool, true, false, List, refl, sym, subst, arith, ◌&&◌, not, if◌then◌else◌, Option, Some, None, ◌∙◌, max, IsSome}
-use Rattle.register_law.proofs.Words.{has, insert, DcSet, DcId, IsAtMost, greater, stamp_cmp, stamp_zero, Stamp, Tag, better, counts, is_same_tag, Found, Phase, takes_have, takes_yes, Stage, Ended, First, Looking, Second, CallState, ToRead, ToWrite, Store, FirstCounted, HasAnswered, StrongCounted, YesCounted, WasSent, KeyId, tag_of, Message, counted, is_counted, Ghost, IsStrongRequest, TagsTellApart, request_key, CallBacked, is_gt, common_steps, has-insert_same, has-below, StrongWork as Work, IsAtMost-trans}
+use Rattle.std.proofs.Common.{◌≡◌, inl, inr, ℕ, ◌<◌, Bool, true, false, List, refl, sym, subst, arith, if◌then◌else◌, Option, Some, None, ◌∙◌, max, IsSome}
+use Rattle.register_law.proofs.Words.{has, insert, DcSet, DcId, IsAtMost, greater, stamp_cmp, stamp_zero, Stamp, better, counts, Found, takes_have, takes_yes, Stage, Ended, First, Looking, Second, CallState, ToRead, ToWrite, Store, FirstCounted, HasAnswered, StrongCounted, WasSent, KeyId, tag_of, Message, counted, is_counted, Ghost, IsStrongRequest, TagsTellApart, request_key, CallBacked, is_gt, common_steps, has-insert_same, has-below, StrongWork as Work, IsAtMost-trans, IsAtMost-refl, has-insert_cases, has-insert_stays, and_left, and_right}
 use Rattle.wire_msg.specs.declared.message.Message.TheVariants as m
-use Rattle.call_phase.proofs.Tags.{same_tag}
 use Rattle.strong_proxy.specs.Counting.{held_after}
-use Rattle.register_law.proofs.Growth.{second_below, at_most_itself}
+use Rattle.register_law.proofs.Growth.{second_below}
 use Rattle.register_law.specs.Live.{WasMarked}
 use Rattle.register_law.proofs.CallsPhase.{recounted, recount}
-use Rattle.register_law.proofs.Quorums.{inserted, stays_in, and_left, and_right}
-use Rattle.register_law.proofs.MovesStep.{counted_is_own}
+use Rattle.register_law.proofs.MovesStep.{counted_is_own, counts_own, counts_asked}
 use Rattle.register_law.proofs.Basics.{point_of}
-
--- an answer that counts has the phase's tag, and is of a replica that was asked
-pub record Counts (phase : Phase) (tag : Tag) (replica : DcId) : Type 0 where
-  pub own : phase.tag ≡ tag
-  pub asked : has phase.asked replica.0 ≡ true
-
-of_four : (a b c d : Bool) → (a && b && c && d) ≡ true → (a ≡ true) × (b ≡ true)
-of_four true true c d h = (refl, refl)
-of_four true false c d h = absurd (cc)
-of_four false b c d h = absurd (cc)
-
-pub counts_is : (phase : Phase) (tag : Tag) (replica : DcId) → counts phase tag replica ≡ true → Counts phase tag replica
-counts_is phase tag replica h =
-    let z = of_four (is_same_tag phase.tag tag) (has phase.asked replica.0) (not (has phase.good replica.0)) (not (has phase.bad replica.0)) h in
-    record { own = same_tag phase.tag tag z.0; asked = z.1 }
-
-pub within_more : (phase : Phase) (replica : DcId) → has phase.asked replica.0 ≡ true → ((d : ℕ) → has phase.good d ≡ true → has phase.asked d ≡ true) → (d : ℕ) → has (insert phase.good replica.0) d ≡ true → has phase.asked d ≡ true
-within_more phase replica asked within d h =
-    elim (inserted phase.good replica.0 d h) as (λ _. has phase.asked d ≡ true) [ inl e ↦ subst (λ n. has phase.asked n ≡ true) (sym e) asked | inr old ↦ within d old ]
-
-yes_more : (s : Store) (phase : Phase) (replica : DcId) (bad : DcSet) → WasSent s (m.Yes phase.tag replica) → YesCounted s phase → YesCounted s (record { tag = phase.tag; asked = phase.asked; good = insert phase.good replica.0; bad = bad })
-yes_more s phase replica bad sent old d h =
-    elim (inserted phase.good replica.0 d h) as (λ _. WasSent s (m.Yes phase.tag (record { 0 = d }))) [
-      | inl e ↦ subst (λ n. WasSent s (m.Yes phase.tag (record { 0 = n }))) (sym e) sent
-      | inr was ↦ old d was
-    ]
+use Rattle.register_law.proofs.MovesTook.{within_good, yes_more, gt_below, not_gt}
 
 pub counted_yes : (s : Store) (work : Work) (stage : Stage) (call : CallState) (replica : DcId) (h : takes_yes work stage ≡ true) → WasSent s (m.Yes call.progress.phase.tag replica) → StrongCounted s work stage call
     → StrongCounted s work stage (recounted call call.best (insert call.progress.phase.good replica.0) call.progress.phase.bad call.progress.top_mark call.progress.had_gone call.progress.top_gone call.progress.top_held)
-counted_yes s (ToWrite value) First call replica h sent old = yes_more s call.progress.phase replica call.progress.phase.bad sent old
-counted_yes s ToRead Second call replica h sent old = yes_more s call.progress.phase replica call.progress.phase.bad sent old
-counted_yes s (ToWrite value) Second call replica h sent old = yes_more s call.progress.phase replica call.progress.phase.bad sent old
+counted_yes s (ToWrite value) First call replica h sent old = yes_more s call.progress.phase replica old sent
+counted_yes s ToRead Second call replica h sent old = yes_more s call.progress.phase replica old sent
+counted_yes s (ToWrite value) Second call replica h sent old = yes_more s call.progress.phase replica old sent
 counted_yes s work stage call replica h sent old = absurd (cc)
 
 -- a refusal counts for nothing that was answered
@@ -62,14 +35,11 @@ counted_refused s work Second call bad had gone held old = λ d c. old d c
 counted_refused s work Looking call bad had gone held old = tt
 counted_refused s work Ended call bad had gone held old = tt
 
-lower : (a b : Stamp) → is_gt (stamp_cmp b a) ≡ true → IsAtMost a b
-lower a b e = grind (arith, common_steps)
-
 above_greater : (a b c : Stamp) → IsAtMost c a → IsAtMost c (greater a b)
 above_greater a b c h = chosen (is_gt (stamp_cmp b a)) refl
   where
     chosen : (t : Bool) → is_gt (stamp_cmp b a) ≡ t → IsAtMost c (if t then b else a)
-    chosen true e = IsAtMost-trans c a b h (lower a b e)
+    chosen true e = IsAtMost-trans c a b h (gt_below b a e)
     chosen false e = h
 
 over_zero : (b : Stamp) → greater stamp_zero b ≡ b
@@ -93,8 +63,8 @@ have_more s call replica version mark value None asked sent old =
     let lt : replica.0 < 16 = has-below call.progress.phase.asked replica.0 asked in
     let zero : greater call.progress.top_mark mark ≡ mark = subst (λ x. greater x mark ≡ mark) (sym old.1) (over_zero mark) in
     record {
-      each = λ d c. elim (inserted call.progress.phase.good replica.0 d c) as (λ _. HasAnswered s call.progress.phase.tag d (record { stamp = version; value = value }) (greater call.progress.top_mark mark)) [
-        | inl e ↦ record { version = version; marked = mark; value = value; sent = subst (λ n. WasSent s (m.Have call.progress.phase.tag (record { 0 = n }) version mark value)) (sym e) sent; below = at_most_itself version; below_mark = second_below call.progress.top_mark mark }
+      each = λ d c. elim (has-insert_cases call.progress.phase.good replica.0 d c) as (λ _. HasAnswered s call.progress.phase.tag d (record { stamp = version; value = value }) (greater call.progress.top_mark mark)) [
+        | inl e ↦ record { version = version; marked = mark; value = value; sent = subst (λ n. WasSent s (m.Have call.progress.phase.tag (record { 0 = n }) version mark value)) (sym e) sent; below = IsAtMost-refl version; below_mark = second_below call.progress.top_mark mark }
         | inr was ↦ absurd (let no = old.0 d in cc)
       ];
       found = record { d = replica.0; mark = mark; counted = has-insert_same call.progress.phase.good replica.0 lt; sent = sent };
@@ -107,30 +77,27 @@ have_more s call replica version mark value (Some best) asked sent old = chosen 
 
     each_is : (now : Found) → IsAtMost version now.stamp → IsAtMost best.stamp now.stamp → (d : ℕ) → has (insert call.progress.phase.good replica.0) d ≡ true → HasAnswered s call.progress.phase.tag d now (greater call.progress.top_mark mark)
     each_is now a b d c =
-        elim (inserted call.progress.phase.good replica.0 d c) as (λ _. HasAnswered s call.progress.phase.tag d now (greater call.progress.top_mark mark)) [
+        elim (has-insert_cases call.progress.phase.good replica.0 d c) as (λ _. HasAnswered s call.progress.phase.tag d now (greater call.progress.top_mark mark)) [
           | inl e ↦ record { version = version; marked = mark; value = value; sent = subst (λ n. WasSent s (m.Have call.progress.phase.tag (record { 0 = n }) version mark value)) (sym e) sent; below = a; below_mark = second_below call.progress.top_mark mark }
           | inr was ↦ (let o = old.each d was in record { version = o.version; marked = o.marked; value = o.value; sent = o.sent; below = IsAtMost-trans o.version best.stamp now.stamp o.below b; below_mark = above_greater call.progress.top_mark mark o.marked o.below_mark })
         ]
 
     marked_is : (t : Bool) → WasMarked s (record { tag = call.progress.phase.tag; asked = call.progress.phase.asked; good = insert call.progress.phase.good replica.0; bad = call.progress.phase.bad }) (if t then mark else call.progress.top_mark)
     marked_is true = record { d = replica.0; version = version; value = value; counted = has-insert_same call.progress.phase.good replica.0 lt; sent = sent }
-    marked_is false = record { d = old.marked.d; version = old.marked.version; value = old.marked.value; counted = stays_in call.progress.phase.good replica.0 old.marked.d lt old.marked.counted; sent = old.marked.sent }
+    marked_is false = record { d = old.marked.d; version = old.marked.version; value = old.marked.value; counted = has-insert_stays call.progress.phase.good replica.0 old.marked.d lt old.marked.counted; sent = old.marked.sent }
 
     chosen : (t : Bool) → is_gt (stamp_cmp version best.stamp) ≡ t
         → FirstCounted s (recounted call (better call.best version value) (insert call.progress.phase.good replica.0) call.progress.phase.bad (greater call.progress.top_mark mark) call.progress.had_gone call.progress.top_gone call.progress.top_held) (if t then Some (record { stamp = version; value = value }) else Some best)
     chosen true e = record {
-      each = each_is (record { stamp = version; value = value }) (at_most_itself version) (lower best.stamp version e);
+      each = each_is (record { stamp = version; value = value }) (IsAtMost-refl version) (gt_below version best.stamp e);
       found = record { d = replica.0; mark = mark; counted = has-insert_same call.progress.phase.good replica.0 lt; sent = sent };
       marked = marked_is (is_gt (stamp_cmp mark call.progress.top_mark));
     }
     chosen false e = record {
-      each = each_is best (not_lower version best.stamp e) (at_most_itself best.stamp);
-      found = record { d = old.found.d; mark = old.found.mark; counted = stays_in call.progress.phase.good replica.0 old.found.d lt old.found.counted; sent = old.found.sent };
+      each = each_is best (not_gt version best.stamp e) (IsAtMost-refl best.stamp);
+      found = record { d = old.found.d; mark = old.found.mark; counted = has-insert_stays call.progress.phase.good replica.0 old.found.d lt old.found.counted; sent = old.found.sent };
       marked = marked_is (is_gt (stamp_cmp mark call.progress.top_mark));
     }
-      where
-        not_lower : (a b : Stamp) → is_gt (stamp_cmp a b) ≡ false → IsAtMost a b
-        not_lower a b e = grind (arith, common_steps)
 
 -- Have counts in a read's first phase alone
 pub in_first : (work : Work) (stage : Stage) → takes_have work stage ≡ true → (work ≡ ToRead) × (stage ≡ First)
@@ -151,17 +118,17 @@ counted_have s work stage call replica version mark value h asked sent old = abs
 -- a message that was sent and counts
 pub counting : (key : KeyId) (s : Store) (g : Ghost) (call : CallState) (message : Message) → is_counted call message ≡ true → WasSent s message → CallBacked key s g call → CallBacked key s g (counted call message)
 counting key s g call (m.Have tag replica version mark value) is sent b =
-    let c = counts_is call.progress.phase tag replica (and_right (takes_have call.work call.progress.stage) (counts call.progress.phase tag replica) is) in
+    let c = and_right (takes_have call.work call.progress.stage) (counts call.progress.phase tag replica) is in
     let t = and_left (takes_have call.work call.progress.stage) (counts call.progress.phase tag replica) is in
     recount key s g call (better call.best version value) (insert call.progress.phase.good replica.0) call.progress.phase.bad (greater call.progress.top_mark mark) call.progress.had_gone call.progress.top_gone call.progress.top_held b
     (λ second. first_not_second call.progress.stage (call.best ≡ better call.best version value) (in_first call.work call.progress.stage t).1 second)
-    (counted_have s call.work call.progress.stage call replica version mark value t c.asked (subst (λ x. WasSent s (m.Have x replica version mark value)) (sym c.own) sent) b.counted)
-    (within_more call.progress.phase replica c.asked b.within)
+    (counted_have s call.work call.progress.stage call replica version mark value t (counts_asked call.progress.phase tag replica c) (subst (λ x. WasSent s (m.Have x replica version mark value)) (sym (counts_own call.progress.phase tag replica c)) sent) b.counted)
+    (within_good call.progress.phase tag replica c b.within)
 counting key s g call (m.Yes tag replica) is sent b =
-    let c = counts_is call.progress.phase tag replica (and_right (takes_yes call.work call.progress.stage) (counts call.progress.phase tag replica) is) in
+    let c = and_right (takes_yes call.work call.progress.stage) (counts call.progress.phase tag replica) is in
     recount key s g call call.best (insert call.progress.phase.good replica.0) call.progress.phase.bad call.progress.top_mark call.progress.had_gone call.progress.top_gone call.progress.top_held b (λ _. refl)
-    (counted_yes s call.work call.progress.stage call replica (and_left (takes_yes call.work call.progress.stage) (counts call.progress.phase tag replica) is) (subst (λ x. WasSent s (m.Yes x replica)) (sym c.own) sent) b.counted)
-    (within_more call.progress.phase replica c.asked b.within)
+    (counted_yes s call.work call.progress.stage call replica (and_left (takes_yes call.work call.progress.stage) (counts call.progress.phase tag replica) is) (subst (λ x. WasSent s (m.Yes x replica)) (sym (counts_own call.progress.phase tag replica c)) sent) b.counted)
+    (within_good call.progress.phase tag replica c b.within)
 counting key s g call (m.Held tag replica stamp) is sent b =
     recount key s g call call.best call.progress.phase.good (insert call.progress.phase.bad replica.0) call.progress.top_mark call.progress.had_gone call.progress.top_gone (held_after call.progress.stage call.progress.top_held stamp) b (λ _. refl)
     (counted_refused s call.work call.progress.stage call (insert call.progress.phase.bad replica.0) call.progress.had_gone call.progress.top_gone (held_after call.progress.stage call.progress.top_held stamp) b.counted) b.within

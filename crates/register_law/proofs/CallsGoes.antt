@@ -1,6 +1,6 @@
 -- A read or a write that waits, repairs, stores, looks or begins a later leg keeps what it rests on.
 use Rattle.std.proofs.Common.{◌≡◌, ℕ, ◌+◌, false, List, [], refl, sym, ap, ◌∙◌, subst, arith, Option, Some, Contains, ◌⊎◌, inl, inr, ◌<◌, ◌≤◌, ◌++◌, None}
-use Rattle.register_law.proofs.Words.{no_centre, Call, KeyId, IsAtMost, Stamp, Message, Post, View, Tag, Found, done, repair_posts, store_posts, tag_after, Look, Repair, Wait, Leg, Progress, Stage, First, Looking, Second, CallState, ToRead, ToWrite, Mark, Happening, Begun, Ghost, noted_of, HasPolicy, HasTicket, IsStrongRequest, MayRepair, StoresOnly, IsKnown, CallBacked, StrongWork as Work, StoreNext as Store, Store as World, none_among, IsQuorumPolicy, member_of, members_of, Policy, Quorum, stamp_zero, first_posts, first_set, leg_ticket, leg_under, Enter, latest, policy_of, ticket_marks, TicketOf, common_steps, Contains-append_right, Contains-append_cases, has-no_centre, among, IsAtMost-trans}
+use Rattle.register_law.proofs.Words.{no_centre, Call, KeyId, IsAtMost, Stamp, Message, Post, View, Tag, Found, done, repair_posts, store_posts, tag_after, Look, Repair, Wait, Leg, Progress, Stage, First, Looking, Second, CallState, ToRead, ToWrite, Mark, Happening, Begun, Ghost, noted_of, HasPolicy, HasTicket, IsStrongRequest, MayRepair, StoresOnly, IsKnown, CallBacked, StrongWork as Work, StoreNext as Store, Store as World, none_among, IsQuorumPolicy, member_of, members_of, Policy, Quorum, stamp_zero, first_posts, first_set, leg_ticket, leg_under, Enter, latest, policy_of, ticket_marks, TicketOf, common_steps, Contains-append_right, Contains-append_cases, has-no_centre, among, IsAtMost-trans, IsAtMost-refl}
 use Rattle.wire_msg.specs.declared.actor.Actor.TheVariants as to
 use Rattle.wire_msg.specs.declared.message.Message.TheVariants as m
 use Rattle.strong_proxy.specs.Rule.{lookup_posts}
@@ -10,7 +10,6 @@ use Rattle.register_law.proofs.Basics.{Each, each_none, each_one, each_to}
 use Rattle.register_law.proofs.CallsLive.{NotOwn}
 use Rattle.register_law.proofs.CallsBacked.{epoch_policy_stays, ticket_stays, stays}
 use Rattle.register_law.proofs.CallsPhase.{same_ticket, phased, InEvent, no_good, new_phase}
-use Rattle.register_law.proofs.Growth.{at_most_itself}
 use Rattle.register_law.proofs.Quorums.{member_is_in}
 use Rattle.register_law.proofs.OpeningsShown.{IsOpenedView}
 use Rattle.register_law.proofs.CallsLegs.{first_asks, none_first, asked_first, first_set_some, first_noted, under_policy}
@@ -163,7 +162,7 @@ latest_ticket (ToWrite value) marks more tag after old leg same t lt is h = reco
     by other (inl was) = (let e = t.0 in IsAtMost-trans other old.leg.ticket leg.ticket (h.greatest other was) (earlier_epoch old.leg.ticket leg.ticket (omega (arith, e, lt))))
     by other (inr new) =
         elim (among (k.Ticket tag.call leg.ticket) [] (k.Ticket tag.call other) (subst (λ (x : List Mark). Contains x (k.Ticket tag.call other)) is new)) as (λ _. IsAtMost other leg.ticket) [
-          | inl e ↦ subst (λ (x : Stamp). IsAtMost x leg.ticket) (sym (same_stamp tag.call tag.call other leg.ticket e)) (at_most_itself leg.ticket)
+          | inl e ↦ subst (λ (x : Stamp). IsAtMost x leg.ticket) (sym (same_stamp tag.call tag.call other leg.ticket e)) (IsAtMost-refl leg.ticket)
           | inr none ↦ absurd (none_among (k.Ticket tag.call other) none)
         ]
 

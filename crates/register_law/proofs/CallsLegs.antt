@@ -1,10 +1,10 @@
 -- The first phase of a leg: its requests, and that it is noted.
-use Rattle.std.proofs.Common.{◌≡◌, ℕ, ◌≤◌, Bool, true, false, List, [], ◌∷◌, refl, sym, ap, ◌∙◌, subst, arith, length, map, ◌==◌, if◌then◌else◌, Some, None, Contains}
+use Rattle.std.proofs.Common.{◌≡◌, ℕ, ◌≤◌, Bool, true, false, List, [], ◌∷◌, refl, sym, ap, ◌∙◌, subst, arith, length, map, ◌==◌, if◌then◌else◌, Some, None, Contains, eq-eqb}
 use Rattle.register_law.proofs.Words.{centres_of, has, IsQuorumPolicy, member_of, members_of, KeyId, Policy, Quorum, stamp_zero, Stamp, Message, Post, View, post_to, first_posts, first_set, leg_under, First, CallState, ToRead, ToWrite, Store, kept_of, policy_of, Happening, Ghost, leg_of, legs_after, noted_of, FirstCounted, HasPolicy, IsAskedOf, IsNotedLeg, IsStrongRequest, StrongCounted, TicketOf, ticket_noted, StrongWork as Work, NotedLeg as Leg}
 use Rattle.wire_msg.specs.declared.message.Message.TheVariants as m
 use Rattle.strong_proxy.specs.declared.progress.Leg.{Leg as CallLeg}
-use Rattle.register_law.proofs.Basics.{Each, each_to, same_number}
-use Rattle.register_law.proofs.Quorums.{reads_some, writes_some}
+use Rattle.register_law.proofs.Basics.{Each, each_to}
+use Rattle.register_law.proofs.Quorums.{reads_many, writes_many}
 
 -- what a leg sends first is its request
 pub first_asks : (work : Work) (call : CallState) → Each (IsStrongRequest work First call) (first_posts work call.progress.key call.progress.phase.tag call.progress.leg)
@@ -30,8 +30,8 @@ first_of true leg legs h = (0, omega arith, refl)
 first_of false leg legs h = absurd (cc)
 
 pub first_set_some : (work : Work) (view : View) (member : Quorum) (ticket : Stamp) (policy : Policy) → IsQuorumPolicy policy → Contains (members_of policy) member → 1 ≤ length (centres_of (first_set work (leg_under view member ticket)))
-first_set_some ToRead view member ticket policy sound is = reads_some policy member sound is
-first_set_some (ToWrite value) view member ticket policy sound is = writes_some policy member sound is
+first_set_some ToRead view member ticket policy sound is = let many = reads_many policy member sound is in omega arith
+first_set_some (ToWrite value) view member ticket policy sound is = let many = writes_many policy member sound is in omega arith
 
 noted_by_work : (key : KeyId) (s : Store) (g : Ghost) (h : Happening) (work : Work) (call : CallState) → call.work ≡ work → call.progress.key ≡ key → TicketOf work call.progress → 1 ≤ length (centres_of (first_set work call.progress.leg))
     → h.posts ≡ first_posts work call.progress.key call.progress.phase.tag call.progress.leg → IsNotedLeg (noted_of key s h g) call
@@ -42,7 +42,7 @@ noted_by_work key s g h ToRead call work_is at t some posts =
     ap (λ (x : List Post). legs_after key s x g.legs) posts ∙ legs_are key s message g.legs (centres_of call.progress.leg.reads) some in
     record {
       leg = leg;
-      noted = subst (λ (x : List Leg). Contains x leg) (sym legs) (first_of (call.progress.key.0 == key.0) leg g.legs (subst (λ (x : KeyId). (x.0 == key.0) ≡ true) (sym at) (same_number key.0)));
+      noted = subst (λ (x : List Leg). Contains x leg) (sym legs) (first_of (call.progress.key.0 == key.0) leg g.legs (subst (λ (x : KeyId). (x.0 == key.0) ≡ true) (sym at) (eq-eqb key.0 key.0 refl)));
       call_is = refl;
       phase_is = refl;
       epoch_is = refl;
@@ -55,7 +55,7 @@ noted_by_work key s g h (ToWrite value) call work_is at t some posts =
     ap (λ (x : List Post). legs_after key s x g.legs) posts ∙ legs_are key s message g.legs (centres_of call.progress.leg.writes) some in
     record {
       leg = leg;
-      noted = subst (λ (x : List Leg). Contains x leg) (sym legs) (first_of (call.progress.key.0 == key.0) leg g.legs (subst (λ (x : KeyId). (x.0 == key.0) ≡ true) (sym at) (same_number key.0)));
+      noted = subst (λ (x : List Leg). Contains x leg) (sym legs) (first_of (call.progress.key.0 == key.0) leg g.legs (subst (λ (x : KeyId). (x.0 == key.0) ≡ true) (sym at) (eq-eqb key.0 key.0 refl)));
       call_is = refl;
       phase_is = refl;
       epoch_is = t.0;

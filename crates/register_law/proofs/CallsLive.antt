@@ -1,9 +1,10 @@
 -- Which calls live after an event, and that an event in which a call has no part sends nothing of it.
-use Rattle.std.proofs.Common.{◌≡◌, inl, inr, ℕ, ◌+◌, ◌≤◌, List, [], ◌∷◌, ◌++◌, refl, sym, ap, ◌∙◌, subst, arith, ◌≢◌, ◌⊎◌, Bool, true, false, Option, Some, None, Contains, ◌==◌}
+use Rattle.std.proofs.Common.{◌≡◌, inl, inr, ℕ, ◌≤◌, List, [], ◌∷◌, ◌++◌, refl, sym, ap, ◌∙◌, subst, arith, ◌≢◌, ◌⊎◌, Bool, true, false, Option, Some, None, Contains, ◌==◌, eqb-true}
+use Rattle.std.proofs.lemmas.Bool.{eqb-false}
 use Rattle.register_law.proofs.Words.{Call, KeyId, Stamp, tag_of, Message, Post, Reply, View, Tag, CallState, Handle, Work, tag_of_call, learned, Store, proxy_at, view_at, Happening, call_takes, end_marks, handle_in, ticket_marks, LiveCall, CallTook, Happened, Started, call_took, did, next_call, WasSent, IsLiveAt, IsPushFree, request_key, same_handle, TagsTellApart, none_among}
 use Rattle.run_marks.specs.declared.mark.Mark.TheVariants as k
 use Rattle.world_core.specs.Starting as starting
-use Rattle.register_law.proofs.Basics.{Each, each_none, equal_is, apart_is, is_itself}
+use Rattle.register_law.proofs.Basics.{Each, each_none, is_itself}
 use Rattle.register_law.proofs.CallsOthers.{take_ticket}
 use Rattle.register_law.proofs.TagsCalls.{taken_of, lives_on, lives_within, same_handle_is, same_place, started_opens}
 use Rattle.register_law.proofs.TagsSent.{IsAnswer, PostsAre, none, answered, of_start, of_call, posts_are, call_sends}
@@ -128,8 +129,8 @@ by_took s h tags at message was took p handle call old now = by (at == p) refl (
         subst (λ (n : ℕ). LiveAfter s h n handle call) same_p (went_on message was took same goes.is goes.no_end)
 
     by : (a : Bool) → (at == p) ≡ a → (b : Bool) → same_handle (handle_in message) handle ≡ b → LiveAfter s h p handle call
-    by false e b f = apart (inl (apart_is at p e))
-    by true e true f = on (equal_is at p e) (same_handle_is (handle_in message) handle f)
+    by false e b f = apart (inl (eqb-false at p e))
+    by true e true f = on (eqb-true at p e) (same_handle_is (handle_in message) handle f)
     by true e false f = apart (inr (λ same. (let k : same_handle (handle_in message) handle ≡ true = subst (λ (x : Handle). same_handle (handle_in message) x ≡ true) same (is_itself (handle_in message).slot (handle_in message).generation) in cc)))
 
 pub live_after : (s : Store) (h : Happening) → TagsTellApart s → Happened s h → (p : ℕ) (handle : Handle) (call : LiveCall) → IsLiveAt h.store p handle call → LiveAfter s h p handle call

@@ -1,6 +1,6 @@
 -- Every event keeps what Repairs, Stores and Asks of the key rest on.
 use Rattle.std.proofs.Common.{◌≡◌, ◌⊎◌, inl, inr, ℕ, List, refl, sym, ap, ◌∙◌, subst, arith, Some, IsSome, Contains}
-use Rattle.register_law.proofs.Words.{KeyId, IsAbove, Stamp, Message, View, Tag, counted, best_stamp, next_ticket, tag_after, Next, Enter, Repair, Leg, Progress, CallState, ToRead, ToWrite, Mark, first_tag, ticket_of, proxy_at, Happening, Happened, next_call, Begun, Ghost, noted_of, Inv, HasTicket, IsWork, TicketOf, Grows, IsKnown, WasSent, IsTicketOf, StoreBacked, CallBacked, Contains-append_left, StrongWork as Work, StoreNext as Store, Store as World}
+use Rattle.register_law.proofs.Words.{KeyId, IsAbove, Stamp, Message, Tag, counted, best_stamp, next_ticket, tag_after, Next, Enter, Repair, Leg, CallState, ToWrite, first_tag, ticket_of, proxy_at, Happening, Happened, next_call, Begun, Ghost, noted_of, Inv, HasTicket, IsWork, TicketOf, Grows, IsKnown, WasSent, IsTicketOf, StoreBacked, CallBacked, Contains-append_left, StrongWork as Work, StoreNext as Store, Store as World}
 use Rattle.wire_msg.specs.declared.message.Message.TheVariants as m
 use Rattle.strong_proxy.proofs.Endings.{progress_after-key}
 use Rattle.run_marks.specs.declared.mark.Work.TheVariants as w
@@ -49,32 +49,23 @@ store_stays key s g h tag stamp value grows b = record {
   ticket = Contains-append_left g.marks h.marks (k.Ticket tag.call stamp) b.ticket;
 }
 
-write_ticket : (work : Work) (p : Progress) (value : List ℕ) → work ≡ ToWrite value → TicketOf work p → (p.leg.ticket.epoch ≡ p.leg.epoch) × IsTicketOf p.phase.tag p.leg.ticket
-write_ticket ToRead p value is t = absurd (cc)
-write_ticket (ToWrite v) p value is t = (t.0, record { proxy = t.2; seq = t.3; some = t.1 })
-
-write_noted : (work : Work) (marks : List Mark) (tag : Tag) (stamp : Stamp) (value : List ℕ) → work ≡ ToWrite value → HasTicket work marks tag stamp → Contains marks (k.Ticket tag.call stamp)
-write_noted ToRead marks tag stamp value is t = absurd (cc)
-write_noted (ToWrite v) marks tag stamp value is t = t.noted
-
 pub write_work : (work : Work) (b : Begun) (value : List ℕ) → work ≡ ToWrite value → IsWork work b.work → b.work ≡ w.Write value
-write_work ToRead b value is h = absurd (cc)
-write_work (ToWrite v) b value is h = h ∙ ap w.Write (let e : v ≡ value = cc in e)
+write_work work b value is h = subst (λ (x : Work). IsWork x b.work) is h
 
 -- the Store of a write that has its grants
 store_backed : (key : KeyId) (s : World) (g : Ghost) (h : Happening) (now : CallState) (value : List ℕ) → Grows key s g h.store (noted_of key s h g) → CallBacked key s g now → IsSome (g.begun now.progress.phase.tag.call) → now.work ≡ ToWrite value
     → ((b : Begun) → g.begun now.progress.phase.tag.call ≡ Some b → IsAbove now.progress.leg.ticket b.floor) → StoreBacked (noted_of key s h g) (tag_after now.progress) now.progress.leg.ticket value
 store_backed key s g h now value grows b some work_is above =
-    let t = write_ticket now.work now.progress value work_is b.policy.ticket in
+    let t : TicketOf (ToWrite value) now.progress = subst (λ (w : Work). TicketOf w now.progress) work_is b.policy.ticket in
     let o = some_begun (g.begun now.progress.phase.tag.call) some in
     record {
       b = o.0;
-      drawn = record { proxy = t.1.proxy; seq = t.1.seq; some = t.1.some };
+      drawn = record { proxy = t.2; seq = t.3; some = t.1 };
       opened = grows.opened now.progress.leg.ticket.epoch (subst (λ (e : ℕ). Contains g.opened e) (sym t.0) b.policy.opened);
       begun = grows.begun now.progress.phase.tag.call o.0 o.1;
       work = write_work now.work o.0 value work_is (b.begun o.0 o.1);
       above = above o.0 o.1;
-      ticket = Contains-append_left g.marks h.marks (k.Ticket now.progress.phase.tag.call now.progress.leg.ticket) (write_noted now.work g.marks now.progress.phase.tag now.progress.leg.ticket value work_is b.ticket);
+      ticket = Contains-append_left g.marks h.marks (k.Ticket now.progress.phase.tag.call now.progress.leg.ticket) ((subst (λ (w : Work). HasTicket w g.marks now.progress.phase.tag now.progress.leg.ticket) work_is b.ticket).noted);
     }
 
 pub stores_backed : (key : KeyId) (s : World) (g : Ghost) (h : Happening) → Happened s h → Inv key s g → AskFloor key s g → (tag : Tag) (stamp : Stamp) (value : List ℕ) → WasSent h.store (m.Store tag key stamp value) → StoreBacked (noted_of key s h g) tag stamp value
@@ -130,10 +121,6 @@ one_store_kept key s g h is inv a b first second v u one other same =
     by (inr x) (inl y) = absurd ((stores_now key s g h is inv a first v x).first b second u y (sym same))
     by (inr x) (inr y) = (stores_now key s g h is inv a first v x).alike b second u y
 
-entered_ticket : (work : Work) (ticket : Stamp) (view : View) (seen : ℕ) (p : Progress) (value : List ℕ) → work ≡ ToWrite value → EntersWith work ticket view seen p → ticket ≡ next_ticket view seen p
-entered_ticket ToRead ticket view seen p value is h = absurd (cc)
-entered_ticket (ToWrite v) ticket view seen p value is h = h
-
 pub asks_ticketed : (key : KeyId) (s : World) (g : Ghost) (h : Happening) → Happened s h → Inv key s g → (tag : Tag) (stamp : Stamp) → WasSent h.store (m.Ask tag key stamp) → IsTicketOf tag stamp
 asks_ticketed key s g h is inv tag stamp sent = by (sent_cases s h (m.Ask tag key stamp) is sent)
   where
@@ -147,7 +134,7 @@ asks_ticketed key s g h is inv tag stamp sent = by (sent_cases s h (m.Ask tag ke
         let sends = sends_ask (counted was message) (next_by s p message was) tag key stamp
         (call_sends h (next_by s p message was) (counted was message) (m.Ask tag key stamp) posts c) in
         let r = rests_by s p message was (Enter sends.leg) sends.next_is in
-        let drawn = entered_ticket (counted was message).work r.ticket (view_by s p message was) (seen_by s p message) (counted was message).progress sends.value sends.work_is r.ticket_is in
+        let drawn = subst (λ (w : Work). EntersWith w r.ticket (view_by s p message was) (seen_by s p message) (counted was message).progress) sends.work_is r.ticket_is in
         let stamp_is : stamp ≡ next_ticket (view_by s p message was) (seen_by s p message) (counted was message).progress =
         sym sends.stamp_is ∙ ap (λ (l : Leg). l.ticket) r.leg_is ∙ drawn in
         subst (λ (x : Tag). IsTicketOf x stamp) sends.tag_is (subst (λ (x : Stamp). IsTicketOf (tag_after (counted was message).progress) x) (sym stamp_is) (record { proxy = refl; seq = refl; some = omega arith }))

@@ -11,7 +11,7 @@ use Rattle.migration.specs.Move as move
 use Rattle.register_law.proofs.MovesStep.{counts_own, counted_is_own, counted_tag, made_by}
 use Rattle.register_law.proofs.Basics.{Each, each_none, each_one, no_ticket}
 use Rattle.register_law.proofs.CallsRows.{IsPlain}
-use Rattle.register_law.proofs.TagsSends.{GoesOn, stays, ends, never, sends_only}
+use Rattle.register_law.proofs.TagsSends.{GoesOn, stays, ends, never, sends_look}
 use Rattle.register_law.proofs.Next.{RestsOn, EntersWith, rests_on}
 
 -- what a get or a put becomes and puts out, at a message under this tag
@@ -33,7 +33,7 @@ ends_out call tag reply own = record { goes = stays refl refl refl; posts = each
 
 moves_out : (call : Eventually) (tag : Tag) (epoch : ℕ) → call.phase.tag ≡ tag → IsEventualOut call tag (eventual.moves call epoch)
 moves_out call tag epoch own = record {
-  goes = ends refl refl refl (sends_only never (next_tag call.phase.tag) call.key (record { to = to.Directory; message = eventual.look_up call }) refl refl tt refl);
+  goes = ends refl refl refl (sends_look never (next_tag call.phase.tag) call.key);
   posts = each_one IsPlain (record { to = to.Directory; message = eventual.look_up call }) tt;
   ticket = refl;
   view = refl;

@@ -1,14 +1,11 @@
 -- What a read or a write rests on once it has begun.
 use Rattle.std.proofs.Common.{◌≡◌, ℕ, Bool, true, List, sym, subst, ◌⊎◌, inl, inr, ◌≤◌, ◌∷◌, ◌++◌, refl, ap, ◌∙◌, arith, Some, length, None, Contains}
-use Rattle.register_law.proofs.Words.{member_of, DcId, KeyId, Quorum, stamp_zero, Stamp, View, Tag, leg_under, opened_with, ToRead, ToWrite, Taken, of_strong, opened_call, Store, proxy_at, view_at, LiveCall, Strong, centres_of, Call, Policy, IsAtMost, tag_of, Message, Post, first_posts, first_set, First, CallState, current_of, latest, Mark, first_tag, policy_of, Happening, Happened, Started, next_call, started, EndsAreBacked, OpeningsAreBacked, Begun, Ghost, is_noted, noted_of, HasTicket, IsStrongRequest, IsWork, StoresOnly, TicketOf, Grows, WasSent, IsSamePoint, TagsTellApart, CallBacked, Contains-append_right, Contains-append_cases, StrongWork as Work, Work as Asked, has-no_centre}
+use Rattle.register_law.proofs.Words.{member_of, DcId, KeyId, Quorum, stamp_zero, Stamp, View, Tag, leg_under, opened_with, ToRead, ToWrite, Taken, Store, proxy_at, view_at, Strong, centres_of, Call, Policy, IsAtMost, tag_of, Message, Post, first_posts, first_set, First, CallState, current_of, latest, Mark, first_tag, policy_of, Happening, Happened, Started, next_call, started, EndsAreBacked, OpeningsAreBacked, Begun, Ghost, is_noted, noted_of, HasTicket, IsStrongRequest, IsWork, StoresOnly, TicketOf, Grows, WasSent, IsSamePoint, TagsTellApart, CallBacked, Contains-append_right, Contains-append_cases, StrongWork as Work, Work as Asked, has-no_centre, IsAtMost-refl}
 use Rattle.run_marks.specs.declared.mark.Work.TheVariants as w
 use Rattle.wire_msg.specs.declared.message.Message.TheVariants as m
 use Rattle.run_marks.specs.declared.mark.Mark.TheVariants as k
 use Rattle.world_core.specs.Starting.{ticket_marks}
 use Rattle.register_law.proofs.Basics.{Each, WasPosted, sent_cases}
-use Rattle.register_law.proofs.CallsRows as table
-use Rattle.register_law.proofs.CallsRows.{each_start, IsPlain}
-use Rattle.register_law.proofs.Growth.{at_most_itself}
 use Rattle.register_law.proofs.CallsLive.{not_next, start_tickets}
 use Rattle.register_law.proofs.Quorums.{member_is_in}
 use Rattle.register_law.proofs.CallsPhase.{request_stores, request_asks, no_good}
@@ -17,43 +14,12 @@ use Rattle.register_law.proofs.OpeningsShown.{IsOpenedView}
 use Rattle.register_law.proofs.CallsGoes.{first_repairs}
 use Rattle.register_law.proofs.MarksAre.{start_ticket}
 use Rattle.register_law.proofs.RequestsKept.{begun_first}
+use Rattle.register_law.proofs.CallsRows.{OpensAs, opens_read, opens_write}
+use Rattle.std.proofs.lemmas.Option.{same_Some}
 
 -- what a proxy knows of a key when it begins a call
 abbrev pub start_view : Store → ℕ → KeyId → View
 start_view s p at = view_at (proxy_at s p).views at
-
--- a read or a write of a strong key opens so
-pub record IsOpened (work : Work) (ticket : Stamp) (tag : Tag) (at : DcId) (view : View) (taken : Taken) : Type 0 where
-  pub member : Quorum
-  pub is_member : member_of view.policy at.0 ≡ Some member
-  pub is : taken ≡ of_strong (opened_with work tag at view.key (leg_under view member ticket))
-
--- the call isn't a read or a write of a strong key
-abbrev pub IsOther : LiveCall → Type 0
-IsOther (Strong call) = ⊥
-IsOther _ = Unit {0}
-
-pub data Opens (strong : Bool) (tag : Tag) (at : DcId) (view : View) (ticket : Stamp) (asked : Asked) (taken : Taken) : Type 0 where
-  opens_read : strong ≡ true → asked ≡ w.Read → IsOpened ToRead stamp_zero tag at view taken → Opens strong tag at view ticket asked taken
-  opens_write : (value : List ℕ) → strong ≡ true → asked ≡ w.Write value → IsOpened (ToWrite value) ticket tag at view taken → Opens strong tag at view ticket asked taken
-  opens_other : IsOther taken.state → Each IsPlain taken.out.posts → Opens strong tag at view ticket asked taken
-
--- what is asked of a call decides how it opens
-pub opens : (strong : Bool) (tag : Tag) (at : DcId) (view : View) (ticket : Stamp) (asked : Asked) (taken : Taken) → opened_call strong tag at view ticket asked ≡ Some taken → Opens strong tag at view ticket asked taken
-opens strong tag at view ticket asked taken h = by (table.opens strong tag at view ticket asked taken h)
-  where
-    other : table.OpensAs strong tag at view ticket asked taken → IsOther taken.state → ((value : List ℕ) → strong ≡ true → asked ≡ w.Write value → ⊥) → Opens strong tag at view ticket asked taken
-    other o is no_write = opens_other is (each_start IsPlain strong tag at view ticket asked taken o (record { read = tt; ask = no_write; look = tt; push = λ value d. tt }))
-
-    by : table.OpensAs strong tag at view ticket asked taken → Opens strong tag at view ticket asked taken
-    by (table.opens_read member is asked_is of one) = opens_read is asked_is (record { member = member; is_member = of; is = one })
-    by (table.opens_write member value is asked_is of one) = opens_write value is asked_is (record { member = member; is_member = of; is = one })
-    by (table.opens_move is asked_is one) = other (table.opens_move is asked_is one) (subst (λ (x : Taken). IsOther x.state) (sym one) tt) (λ value strong e. absurd (cc))
-    by (table.opens_get any is asked_is one) = other (table.opens_get any is asked_is one) (subst (λ (x : Taken). IsOther x.state) (sym one) tt) (λ value strong e. absurd (cc))
-    by (table.opens_put value is asked_is one) = other (table.opens_put value is asked_is one) (subst (λ (x : Taken). IsOther x.state) (sym one) tt) (λ value strong e. absurd (cc))
-    by (table.opens_eventual_move is asked_is one) = other (table.opens_eventual_move is asked_is one) (subst (λ (x : Taken). IsOther x.state) (sym one) tt) (λ value strong e. absurd (cc))
-
--- ---- a read or a write that begins rests on what it should
 
 -- the call that begins
 abbrev pub new_call : Work → Stamp → Quorum → Store → ℕ → KeyId → Tag → CallState
@@ -63,6 +29,21 @@ new_call work ticket member s p at tag = (opened_with work tag (proxy_at s p).at
 abbrev pub IsBegunAs : Work → Stamp → Asked → Stamp → Type 0
 IsBegunAs ToRead ticket asked drawn = asked ≡ w.Read
 IsBegunAs (ToWrite value) ticket asked drawn = (asked ≡ w.Write value) × (ticket ≡ drawn)
+
+-- how a read or a write of a strong key begins: with its work, and the ticket that it draws
+pub record BeginsAs (tag : Tag) (at : DcId) (view : View) (drawn : Stamp) (asked : Asked) (taken : Taken) (call : CallState) : Type 0 where
+  pub work : Work
+  pub ticket : Stamp
+  pub agree : IsBegunAs work ticket asked drawn
+  pub member : Quorum
+  pub is_member : member_of view.policy at.0 ≡ Some member
+  pub is : call ≡ (opened_with work tag at view.key (leg_under view member ticket)).state
+  pub posts : taken.out.posts ≡ first_posts work view.key tag (leg_under view member ticket)
+
+pub begins_as : (tag : Tag) (at : DcId) (view : View) (drawn : Stamp) (strongly : Bool) (asked : Asked) (taken : Taken) (call : CallState) → OpensAs tag at view drawn strongly asked taken → Strong call ≡ taken.state → BeginsAs tag at view drawn asked taken call
+begins_as tag at view drawn strongly asked taken call (opens_read member of) e = record { work = ToRead; ticket = stamp_zero; agree = refl; member = member; is_member = of; is = cc; posts = refl }
+begins_as tag at view drawn strongly asked taken call (opens_write member value of) e = record { work = ToWrite value; ticket = drawn; agree = (refl, refl); member = member; is_member = of; is = cc; posts = refl }
+begins_as tag at view drawn strongly asked taken call _ e = absurd (cc)
 
 begun_ticket : (work : Work) (ticket : Stamp) (member : Quorum) (s : Store) (p : ℕ) (at : KeyId) (asked : Asked) (tag : Tag) → tag.call ≡ next_call s p
     → IsBegunAs work ticket asked (start_ticket s p at) → TicketOf work (new_call work ticket member s p at tag).progress
@@ -94,7 +75,7 @@ first_ticket (ToWrite value) ticket drawn marks call tag at asked own h none =
   where
     by : (other : Stamp) → Contains marks (k.Ticket call other) ⊎ Contains (k.Begin call at asked ∷ ticket_marks call drawn asked) (k.Ticket call other) → IsAtMost other ticket
     by other (inl was) = absurd (none other was)
-    by other (inr new) = subst (λ (x : Stamp). IsAtMost x ticket) (h.1 ∙ (start_tickets call call at asked drawn other new).0) (at_most_itself ticket)
+    by other (inr new) = subst (λ (x : Stamp). IsAtMost x ticket) (h.1 ∙ (start_tickets call call at asked drawn other new).0) (IsAtMost-refl ticket)
 
 pub starts_backed : (key : KeyId) (s : Store) (g : Ghost) (h : Happening) (p : ℕ) (at : KeyId) (asked : Asked) (st : Started s p at asked h) (work : Work) (ticket : Stamp)
     → TagsTellApart s → OpeningsAreBacked key s g → EndsAreBacked key s g → Grows key s g h.store (noted_of key s h g)
@@ -109,7 +90,7 @@ starts_backed key s g h p at asked st work ticket tags openings ends grows agree
   within = λ d c. no_good d _ c;
   policy = under_policy key h.store (noted_of key s h g) call view member refl is_member (grows.opened view.epoch opened) (policy ∙ sym (grows.policies view.epoch range.0 range.1)) (asked_first work view member ticket) drawn;
   leg = λ _. first_noted key s g h call (view_key ∙ same) drawn some posts;
-  begun = λ b e. subst (IsWork work) (ap (λ (x : Begun). x.work) (one_begun (record { work = asked; floor = g.top; epoch = current_of s.directory key }) b (sym noted ∙ e))) (works_agree work ticket _ asked agree);
+  begun = λ b e. subst (IsWork work) (ap (λ (x : Begun). x.work) (same_Some (record { work = asked; floor = g.top; epoch = current_of s.directory key }) b (sym noted ∙ e))) (works_agree work ticket _ asked agree);
   repair = λ b e. first_repairs key h.store work None b.floor;
   store = λ tag stamp value sent own. store_of tag stamp value own (sent_cases s h (m.Store tag key stamp value) is sent);
   epochs = λ tag stamp sent own. ask_of tag stamp own (sent_cases s h (m.Ask tag key stamp) is sent);
@@ -152,9 +133,6 @@ starts_backed key s g h p at asked st work ticket tags openings ends grows agree
     noted : (noted_of key s h g).begun (next_call s p) ≡ Some (record { work = asked; floor = g.top; epoch = current_of s.directory key })
     noted = begun_first key g.top (current_of s.directory key) h.marks (ticket_marks (next_call s p) (start_ticket s p at) asked) g.begun (next_call s p) asked (noted_work work ticket (start_ticket s p at) asked agree)
         (ap (λ (x : Happening). x.marks) st.is ∙ ap (λ (x : KeyId). k.Begin (next_call s p) x asked ∷ ticket_marks (next_call s p) (start_ticket s p at) asked) same)
-
-    one_begun : (a b : Begun) → Some a ≡ Some b → a ≡ b
-    one_begun a b e = cc
 
     fresh : (request : Message) → WasSent s request → (tag_of request).call ≡ next_call s p → ⊥
     fresh request sent own = not_next s p (tag_of request).call (tags.sent_numbered request sent).begun (sym own)

@@ -1,6 +1,6 @@
 -- Every event keeps what the reads and the writes of the key rest on: a call that goes on, and the cases put together.
-use Rattle.std.proofs.Common.{◌≡◌, ℕ, true, List, [], ◌++◌, refl, sym, ap, ◌∙◌, subst, Option, Some, None, option_map, ◌<◌, ◌≤◌, length, IsSome, Contains}
-use Rattle.register_law.proofs.Words.{Call, KeyId, IsAbove, IsAtMost, Stamp, Message, View, has_quorum, Found, best_stamp, done, value_reply, Next, Enter, Look, Repair, Value, Wait, Stage, First, Second, CallState, ToRead, ToWrite, Happening, end_marks, ticket_marks, Started, Begun, Ghost, noted_of, Inv, FirstCounted, HavesCounted, IsStrongRequest, StrongCounted, IsKnown, WasSent, MessagesAreBacked, CallBacked, StrongWork as Work, StoreNext as Store, Work as Asked, Store as World, stamp_zero, Step, tag_of, Outputs, Post, Tag, counted, is_counted, next_of, nothing_done, Handle, Mark, Taken, learned, first_tag, proxy_at, view_at, handle_in, is_strong_key, LiveCall, Strong, CallTook, Happened, next_call, IsLiveStrong, StrongCallsAreBacked, none_among}
+use Rattle.std.proofs.Common.{◌≡◌, ℕ, true, List, [], ◌++◌, refl, sym, ap, ◌∙◌, subst, Option, Some, None, option_map, ◌<◌, ◌≤◌, length, IsSome, Contains, subst₂}
+use Rattle.register_law.proofs.Words.{Call, KeyId, IsAbove, IsAtMost, Stamp, Message, View, has_quorum, Found, best_stamp, done, value_reply, Next, Enter, Look, Repair, Value, Wait, Stage, First, Second, CallState, ToRead, ToWrite, Happening, end_marks, ticket_marks, Started, Begun, Ghost, noted_of, Inv, FirstCounted, HavesCounted, IsStrongRequest, StrongCounted, IsKnown, WasSent, MessagesAreBacked, CallBacked, StrongWork as Work, StoreNext as Store, Work as Asked, Store as World, Step, tag_of, Outputs, Post, Tag, counted, is_counted, next_of, nothing_done, Handle, Mark, learned, first_tag, proxy_at, view_at, handle_in, LiveCall, Strong, CallTook, Happened, next_call, IsLiveStrong, StrongCallsAreBacked, none_among}
 use Rattle.wire_msg.specs.declared.message.Message.TheVariants as m
 use Rattle.wire_msg.specs.declared.actor.Actor.TheVariants as to
 use Rattle.strong_proxy.specs.Rule.{step}
@@ -12,14 +12,14 @@ use Rattle.register_law.proofs.CallsAnswers.{PhaseRequest, counting, phase_reque
 use Rattle.register_law.proofs.CallsPhase.{InEvent}
 use Rattle.register_law.proofs.CallsGoes.{waits_keep, repairs_keep, stores_keep, looks_keep, enters_keep}
 use Rattle.register_law.proofs.OpeningsShown.{IsOpenedView, learned_view, opened_at}
-use Rattle.register_law.proofs.CallsStart.{start_view, IsOther, Opens, opens_read, opens_write, opens_other, opens, new_call, starts_backed}
+use Rattle.register_law.proofs.CallsStart.{start_view, starts_backed, BeginsAs, begins_as}
 use Rattle.register_law.proofs.Growth.{grows_by}
 use Rattle.register_law.proofs.MovesStep.{counted_tag}
 use Rattle.register_law.proofs.Basics.{Each, each_none}
 use Rattle.register_law.proofs.CallsOthers.{StrongStep, counts_it, ignores_it, strong_step}
 use Rattle.register_law.proofs.MarksAre.{start_ticket}
 use Rattle.register_law.proofs.CallsLive.{view_by, seen_by, NotOwn, LiveAfter, stayed, begun, went_on, live_after}
-use Rattle.register_law.proofs.TagsCalls.{taken_of}
+use Rattle.register_law.proofs.TagsCalls.{taken_of, started_as}
 use Rattle.register_law.proofs.CallsBacked.{stays}
 
 -- a read's first phase that has its number found a version of at least the floor
@@ -37,21 +37,18 @@ abbrev pub StartsAreKeyed : World → Happening → Type 0
 StartsAreKeyed s h = (p : ℕ) (at : KeyId) (asked : Asked) → Started s p at asked h → (start_view s p at).key ≡ at
 
 pub read_request : (work : Work) (stage : Stage) (call : CallState) (request : Message) → work ≡ ToRead → stage ≡ First → IsStrongRequest work stage call request → request ≡ m.Read call.progress.phase.tag call.progress.key call.progress.leg.epoch
-read_request ToRead First call request a b h = h
-read_request work stage call request a b h = absurd (cc)
+read_request work stage call request a b h = subst₂ (λ (w : Work) (x : Stage). IsStrongRequest w x call request) a b h
 
 pub store_request : (work : Work) (stage : Stage) (call : CallState) (request : Message) (value : List ℕ) → work ≡ ToWrite value → stage ≡ Second → IsStrongRequest work stage call request → request ≡ m.Store call.progress.phase.tag call.progress.key call.progress.leg.ticket value
-store_request (ToWrite v) Second call request value a b h = h ∙ ap (m.Store call.progress.phase.tag call.progress.key call.progress.leg.ticket) (let e : v ≡ value = cc in e)
-store_request work stage call request value a b h = absurd (cc)
+store_request work stage call request value a b h = subst₂ (λ (w : Work) (x : Stage). IsStrongRequest w x call request) a b h
 
 pub haves_of : (s : World) (work : Work) (stage : Stage) (call : CallState) (best : Found) → work ≡ ToRead → stage ≡ First → call.best ≡ Some best → StrongCounted s work stage call → HavesCounted s call best
-haves_of s ToRead First call best a b e h = subst (FirstCounted s call) e h
-haves_of s work stage call best a b e h = absurd (cc)
+haves_of s work stage call best a b e h = subst (FirstCounted s call) e (subst₂ (λ (w : Work) (x : Stage). StrongCounted s w x call) a b h)
 
 -- a read in its second phase has what it repairs
-pub repairs_found : (work : Work) (stage : Stage) (call : CallState) (request : Message) → work ≡ ToRead → stage ≡ Second → IsStrongRequest work stage call request → (found : Found) × (call.best ≡ Some found)
-repairs_found ToRead Second call request a b h = (h.0, h.1)
-repairs_found work stage call request a b h = absurd (cc)
+pub repairs_found : (work : Work) (stage : Stage) (call : CallState) (request : Message) → work ≡ ToRead → stage ≡ Second → IsStrongRequest work stage call request
+    → (found : Found) × (call.best ≡ Some found) × (request ≡ m.Repair call.progress.phase.tag call.progress.key call.progress.leg.epoch found.stamp found.value)
+repairs_found work stage call request a b h = subst₂ (λ (w : Work) (x : Stage). IsStrongRequest w x call request) a b h
 
 -- what a read found is a version that is known
 pub found_known : (key : KeyId) (s : World) (g : Ghost) (now : CallState) (best : Found) → MessagesAreBacked key s g → CallBacked key s g now → PhaseRequest s now → now.progress.key ≡ key → now.work ≡ ToRead → now.progress.stage ≡ First → now.best ≡ Some best
@@ -62,9 +59,6 @@ found_known key s g now best messages b asked at_key work_is stage_is best_is =
     let sent : WasSent s (m.Read now.progress.phase.tag key now.progress.leg.epoch) =
     subst (λ (x : KeyId). WasSent s (m.Read now.progress.phase.tag x now.progress.leg.epoch)) at_key (subst (λ (x : Message). WasSent s x) read asked.sent) in
     (messages.read_known now.progress.phase.tag now.progress.leg.epoch haves.found.d best.stamp haves.found.mark best.value sent haves.found.sent).0
-
-pub none_not_some : {X : Type 0} → (x : X) (P : Type 0) → Some x ≡ None → P
-none_not_some {X} x P h = absurd (cc)
 
 pub no_best : (best : Option Found) → option_map value_reply best ≡ None → best ≡ None
 no_best None h = refl
@@ -96,7 +90,7 @@ goes_on key s g h now view seen (Enter leg) e inv floor known asked posts marks 
     no_end : (call : Call) (o : Option Stamp) → ticket_marks call o ++ [] ≡ ticket_marks call o
     no_end call None = refl
     no_end call (Some t) = refl
-goes_on key s g h now view seen next e inv floor known asked posts marks end rests = none_not_some _ _ end
+goes_on key s g h now view seen next e inv floor known asked posts marks end rests = absurd (cc)
 
 -- ---- every event keeps what the reads and the writes of the key rest on: the cases put together
 
@@ -182,22 +176,12 @@ strong_went_on key s g h p message was made is inv floor took (ignores_it made_i
 
 -- a call that began
 strong_begun : (key : KeyId) (s : World) (g : Ghost) (h : Happening) (p : ℕ) (at : KeyId) (asked : Asked) (st : Started s p at asked h) (call : CallState) → Happened s h → Inv key s g → StartsAreKeyed s h
-    → Opens (is_strong_key s at) (first_tag (next_call s p) st.handle) (proxy_at s p).at (start_view s p at) (start_ticket s p at) asked st.taken
-    → Strong call ≡ st.taken.state → call.progress.key ≡ key → CallBacked key h.store (noted_of key s h g) call
-strong_begun key s g h p at asked st call is inv keyed (opens_other other posts) e at_key = absurd (subst IsOther (sym e) other)
-strong_begun key s g h p at asked st call is inv keyed (opens_read strong asked_is o) e at_key =
-    let same : call ≡ new_call ToRead stamp_zero o.member s p at (first_tag (next_call s p) st.handle) = strong_is call (new_call ToRead stamp_zero o.member s p at (first_tag (next_call s p) st.handle)) (e ∙ ap (λ (t : Taken). t.state) o.is) in
+    → BeginsAs (first_tag (next_call s p) st.handle) (proxy_at s p).at (start_view s p at) (start_ticket s p at) asked st.taken call → call.progress.key ≡ key → CallBacked key h.store (noted_of key s h g) call
+strong_begun key s g h p at asked st call is inv keyed o at_key =
     let view_key = keyed p at asked st in
-    subst (λ (c : CallState). CallBacked key h.store (noted_of key s h g) c) (sym same)
-    (starts_backed key s g h p at asked st ToRead stamp_zero inv.tags inv.openings inv.ends (grows_by key s g h is inv) asked_is
-    (sym view_key ∙ ap (λ (c : CallState). c.progress.key) (sym same) ∙ at_key) view_key o.member o.is_member (ap (λ (x : Happening). x.posts) st.is ∙ ap (λ (t : Taken). t.out.posts) o.is))
-strong_begun key s g h p at asked st call is inv keyed (opens_write value strong asked_is o) e at_key =
-    let same : call ≡ new_call (ToWrite value) (start_ticket s p at) o.member s p at (first_tag (next_call s p) st.handle) =
-    strong_is call (new_call (ToWrite value) (start_ticket s p at) o.member s p at (first_tag (next_call s p) st.handle)) (e ∙ ap (λ (t : Taken). t.state) o.is) in
-    let view_key = keyed p at asked st in
-    subst (λ (c : CallState). CallBacked key h.store (noted_of key s h g) c) (sym same)
-    (starts_backed key s g h p at asked st (ToWrite value) (start_ticket s p at) inv.tags inv.openings inv.ends (grows_by key s g h is inv) (asked_is, refl)
-    (sym view_key ∙ ap (λ (c : CallState). c.progress.key) (sym same) ∙ at_key) view_key o.member o.is_member (ap (λ (x : Happening). x.posts) st.is ∙ ap (λ (t : Taken). t.out.posts) o.is))
+    subst (λ (c : CallState). CallBacked key h.store (noted_of key s h g) c) (sym o.is)
+    (starts_backed key s g h p at asked st o.work o.ticket inv.tags inv.openings inv.ends (grows_by key s g h is inv) o.agree
+    (sym view_key ∙ ap (λ (c : CallState). c.progress.key) (sym o.is) ∙ at_key) view_key o.member o.is_member (ap (λ (x : Happening). x.posts) st.is ∙ o.posts))
 
 pub strong_kept : (key : KeyId) (s : World) (g : Ghost) (h : Happening) → Happened s h → Inv key s g → StartsAreKeyed s h → ReadFloor key s g → StrongCallsAreBacked key h.store (noted_of key s h g)
 strong_kept key s g h is inv keyed floor = λ p handle call live. by p handle call live (live_after s h inv.tags is p handle (Strong call) live.live)
@@ -214,5 +198,5 @@ strong_kept key s g h is inv keyed floor = λ p handle call live. by p handle ca
     by p handle call live (stayed old apart) =
         stays key s g h call is (grows_by key s g h is inv) inv.openings.published (inv.requests.live_begun p handle (Strong call) old live.at_key) apart (inv.strong p handle call (record { live = old; at_key = live.at_key }))
     by p handle call live (begun at asked st e f) =
-        strong_begun key s g h p at asked st call is inv keyed (opens (is_strong_key s at) (first_tag (next_call s p) st.handle) (proxy_at s p).at (start_view s p at) (start_ticket s p at) asked st.taken st.first) f live.at_key
+        strong_begun key s g h p at asked st call is inv keyed (begins_as _ _ _ _ _ asked st.taken call (started_as s p at asked h st) f) live.at_key
     by p handle call live (went_on message was took e f end) = went p message was call took f end live.at_key

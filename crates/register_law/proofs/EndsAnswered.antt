@@ -1,5 +1,6 @@
 -- What a call is answered with is kept.
 use Rattle.std.proofs.Common.{◌≡◌, Bool, true, false, List, [], ◌∷◌, refl, sym, ap, ◌∙◌, subst, arith, if◌then◌else◌, Option, Some, None, IsSome, Contains, ℕ, option_map}
+use Rattle.std.proofs.lemmas.Option.{same_Some}
 use Rattle.register_law.proofs.Words.{Call, KeyId, greater, stamp_cmp, Stamp, Reply, counted, Mark, Store, Happening, Happened, Begun, Ghost, answered_with, is_begun, noted_of, raised_by, top_after, Inv, IsKept, Step, tag_of, Message, Tag, Found, is_counted, done, value_reply, Next, CallState, strong_rule, key_of_call, tag_of_call, learned, proxy_at, view_at, handle_in, LiveCall, Eventual, EventualMove, Strong, StrongMove, CallTook, HasBegin, IsOfStrong, is_gt, Contains-there}
 use Rattle.wire_msg.specs.declared.outputs.Reply.TheVariants as r
 use Rattle.strong_proxy.specs.declared.next.Next.TheVariants as n
@@ -12,7 +13,6 @@ use Rattle.register_law.proofs.Growth.{grows_by}
 use Rattle.register_law.proofs.CallsSent.{next_by}
 use Rattle.register_law.proofs.CallsMessages.{rests_by}
 use Rattle.register_law.proofs.FloorsMet.{answer_is_kept, stored_is_kept}
-use Rattle.register_law.proofs.Basics.{some_stamp}
 use Rattle.register_law.proofs.MovesStep.{move_never, counted_tag, IsMoveEnd, made_by}
 use Rattle.register_law.proofs.TagsCalls.{taken_of}
 use Rattle.register_law.proofs.CallsOthers.{StrongStep, counts_it, ignores_it, strong_step, take_end}
@@ -119,11 +119,11 @@ answer_kept key s g h call reply stamp is inv a answered = by (answer_is (next_b
 
     by : AnswerIs (counted a.was a.message) (next_by s a.p a.message a.was) reply → IsKept key s g stamp
     by (gives found next best is) =
-        subst (IsKept key s g) (some_stamp found.stamp stamp (stamp_of reply (r.Value found.stamp found.value) stamp answered is))
+        subst (IsKept key s g) (same_Some found.stamp stamp (stamp_of reply (r.Value found.stamp found.value) stamp answered is))
         (answer_is_kept key s g (counted a.was a.message) found inv t.event.backed t.asked t.event.at_key (rests_by s a.p a.message a.was n.Value next) best)
     by (confirms next is) =
         let c = rests_by s a.p a.message a.was n.Stored next in
-        subst (IsKept key s g) (some_stamp (counted a.was a.message).progress.leg.ticket stamp (stamp_of reply (r.Stored (counted a.was a.message).progress.leg.ticket) stamp answered is))
+        subst (IsKept key s g) (same_Some (counted a.was a.message).progress.leg.ticket stamp (stamp_of reply (r.Stored (counted a.was a.message).progress.leg.ticket) stamp answered is))
         (stored_is_kept key s g (counted a.was a.message) c.value inv t.event.backed t.asked t.event.at_key c.work_is c.stage_is c.quorum)
 
 greater_has : (P : Stamp → Type 0) (a b : Stamp) → P a → P b → P (greater a b)

@@ -1,14 +1,12 @@
 -- Each begin is numbered, stands once, and is noted with the floor before it.
-use Rattle.std.proofs.Common.{◌≡◌, inl, inr, ℕ, ◌+◌, ◌≤◌, List, ◌∷◌, ◌++◌, ap, subst, arith, true, [], refl, sym, ◌∙◌, ◌⊎◌, Bool, false, Some, IsSome, Contains, ◌==◌, ◌&&◌, if◌then◌else◌, Option}
-use Rattle.register_law.proofs.Words.{Call, KeyId, tag_of, Tag, call_of, Mark, Work, tag_of_call, Store, proxy_at, Happening, Happened, next_call, Ghost, noted_of, Inv, IsNumbered, is_noted, IsAtMost, Stamp, current_of, is_same_call, BegunAfter, Begun, begun_after, Contains-append_cases, Contains-append_left, append_assoc, among, none_among}
+use Rattle.std.proofs.Common.{◌≡◌, inl, inr, ℕ, ◌+◌, ◌≤◌, List, ◌∷◌, ◌++◌, ap, subst, arith, true, [], refl, sym, ◌∙◌, ◌⊎◌, Some, IsSome, Contains}
+use Rattle.register_law.proofs.Words.{Call, KeyId, tag_of, Tag, call_of, Mark, Work, tag_of_call, Store, proxy_at, Happening, Happened, next_call, Ghost, noted_of, Inv, IsNumbered, is_noted, IsAtMost, Stamp, BegunAfter, Begun, Contains-append_cases, Contains-append_left, append_assoc, none_among, draws_ticket}
 use Rattle.wire_msg.specs.declared.actor.Actor.TheVariants as to
 use Rattle.run_marks.specs.declared.mark.Mark.TheVariants as k
-use Rattle.register_order.proofs.Tests.{same_call}
 use Rattle.register_law.proofs.Growth.{calls_grow}
-use Rattle.register_law.proofs.RequestsKept.{BegunIs, begun_before, begun_now, begun_is, begins_next, begun_noted, begun_some_stays}
-use Rattle.register_law.proofs.MarksAre.{MarkOf, begins_now, takes_now, gives_up, marks_are, mark_of, BeginIs, begins_none, begins_one, BeginsNone, begin_is}
+use Rattle.register_law.proofs.RequestsKept.{BegunIs, begun_before, begun_now, begun_is, begins_next, begun_noted, begun_some_stays, BeginsWith, begun_with}
+use Rattle.register_law.proofs.MarksAre.{MarkOf, begins_now, takes_now, gives_up, marks_are, mark_of, BeginsNone, MarkIs, nobodys, refused_begin, started_begin, mark_is, end_begins, ticket_begins, start_ticket}
 use Rattle.register_law.proofs.MarksOfKey.{Splits, in_front, behind, splits, in_between}
-use Rattle.register_law.proofs.Basics.{key_is}
 
 -- each call that is marked was begun
 pub numbered_after : (key : KeyId) (s : Store) (g : Ghost) (h : Happening) → Happened s h → Inv key s g → (call : Call) (mark : Mark) → Contains (g.marks ++ h.marks) mark → call_of mark ≡ Some call → (1 ≤ call.seq) × (call.seq ≤ (proxy_at h.store call.proxy).begun)
@@ -54,15 +52,12 @@ was_of_key key s g h is inv call mark c of some = by (begun_is key s g h call so
 
 -- a begin among the marks of an event is the first of them
 pub new_begin : (X : Type 0) (s : Store) (h : Happening) → Happened s h → (call : Call) (at : KeyId) (work : Work) → Contains h.marks (k.Begin call at work) → ((rest : List Mark) → h.marks ≡ k.Begin call at work ∷ rest → BeginsNone rest → X) → X
-new_begin X s h is call at work c f = by (begin_is s h (marks_are s h is))
+new_begin X s h is call at work c f = by call at work (mark_is s h (marks_are s h is) (k.Begin call at work) c) f
   where
-    by : BeginIs h → X
-    by (begins_none none) = absurd (none call at work c)
-    by (begins_one one key what rest marks none) =
-        elim (among (k.Begin one key what) rest (k.Begin call at work) (subst (λ (x : List Mark). Contains x (k.Begin call at work)) marks c)) as (λ _. X) [
-          | inl same ↦ f rest (marks ∙ ap (λ (x : Mark). x ∷ rest) (sym same)) none
-          | inr more ↦ absurd (none call at work more)
-        ]
+    by : (one : Call) (on : KeyId) (asked : Work) → MarkIs s h (k.Begin one on asked) → ((rest : List Mark) → h.marks ≡ k.Begin one on asked ∷ rest → BeginsNone rest → X) → X
+    by one on asked (nobodys _ none) f = absurd (cc)
+    by one on asked (refused_begin p key what reply marks) f = f _ marks (end_begins (next_call s p) reply)
+    by one on asked (started_begin p key what st marks) f = f _ marks (ticket_begins (next_call s p) (start_ticket s p key) (draws_ticket what))
 
 -- each call's begin stands in one place
 pub begins_once_after : (key : KeyId) (s : Store) (g : Ghost) (h : Happening) → Happened s h → Inv key s g → (call : Call) (at : KeyId) (work : Work) (earlier later : List Mark) → g.marks ++ h.marks ≡ earlier ++ k.Begin call at work ∷ later → (other : KeyId) (again : Work)
@@ -102,30 +97,6 @@ noted_after key s g h is inv call work c noted =
     ]
 
 -- ---- what was noted of a call is what its begin found
-
--- what was noted of a call, before the event or at it
-pub record BeginsWith (key : KeyId) (s : Store) (g : Ghost) (h : Happening) (call : Call) (b : Begun) : Type 0 where
-  pub rest : List Mark
-  pub marks : h.marks ≡ k.Begin call key b.work ∷ rest
-  pub floor : b.floor ≡ g.top
-
-noted_cases : (X : Type 0) (x y z : Bool) (new b : Begun) (was : Option Begun) → (x ≡ true → z ≡ true → new ≡ b → X) → (was ≡ Some b → X) → (if x && (y && z) then Some new else was) ≡ Some b → X
-noted_cases X true true true new b was f g h = f refl refl (cc)
-noted_cases X true true false new b was f g h = g h
-noted_cases X x y z new b was f g h = g h
-
-pub begun_with : (key : KeyId) (s : Store) (g : Ghost) (h : Happening) (call : Call) (b : Begun) → (noted_of key s h g).begun call ≡ Some b → (g.begun call ≡ Some b) ⊎ BeginsWith key s g h call b
-begun_with key s g h call b e = by h.marks refl e
-  where
-    by : (marks : List Mark) → h.marks ≡ marks → begun_after key g.top (current_of s.directory key) marks g.begun call ≡ Some b → (g.begun call ≡ Some b) ⊎ BeginsWith key s g h call b
-    by (k.Begin other at work ∷ rest) is e =
-        noted_cases ((g.begun call ≡ Some b) ⊎ BeginsWith key s g h call b) (at.0 == key.0) (is_noted work) (is_same_call other call) (record { work = work; floor = g.top; epoch = current_of s.directory key }) b (g.begun call)
-        (λ x z new. inr (record {
-          rest = rest;
-          marks = is ∙ ap (λ (v : KeyId). k.Begin other v work ∷ rest) (key_is at key x) ∙ ap (λ (v : Call). k.Begin v key work ∷ rest) (same_call other call z) ∙ ap (λ (v : Begun). k.Begin call key v.work ∷ rest) new;
-          floor = ap (λ (v : Begun). v.floor) (sym new);
-        })) (λ was. inl was) e
-    by marks is e = inl e
 
 -- where a call's begin stands, and what it found
 pub begins_after : (key : KeyId) (s : Store) (g : Ghost) (h : Happening) → Happened s h → Inv key s g → (call : Call) (b : Begun) → (noted_of key s h g).begun call ≡ Some b → BegunAfter (noted_of key s h g) call b key

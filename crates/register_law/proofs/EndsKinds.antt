@@ -1,20 +1,16 @@
 -- A live call of a strong key reads, writes or moves it as one.
 use Rattle.std.proofs.Common.{◌≡◌, ℕ, Bool, true, sym, ap, ◌∙◌, subst}
-use Rattle.register_law.proofs.Words.{DcId, KeyId, Stamp, Message, Outputs, View, Tag, Handle, Work, Taken, key_of_call, tag_of_call, take, learned, first_tag, ticket_of, Store, proxy_at, view_at, Happening, is_strong_key, LiveCall, Eventual, EventualMove, Strong, StrongMove, Happened, next_call, IsOfStrong, Ghost, Inv, IsLiveAt}
-use Rattle.register_law.proofs.CallsRows.{opens, OpensAs, opens_read, opens_write, opens_move, opens_get, opens_put, opens_eventual_move}
+use Rattle.register_law.proofs.Words.{DcId, KeyId, Stamp, Message, Outputs, View, Tag, Handle, Work, Taken, key_of_call, tag_of_call, take, learned, first_tag, ticket_of, Store, proxy_at, view_at, Happening, LiveCall, Eventual, EventualMove, Strong, StrongMove, Happened, next_call, IsOfStrong, Ghost, Inv, IsLiveAt}
+use Rattle.register_law.proofs.CallsRows.{OpensAs, opens_read}
 use Rattle.register_law.proofs.TagsSends.{GoesOn, stays, turns, ends}
 use Rattle.register_law.proofs.TagsSteps.{take_goes_on}
-use Rattle.register_law.proofs.TagsCalls.{LiveIs, was_live, begins, went_on, taken_of, live_after, started_opens}
+use Rattle.register_law.proofs.TagsCalls.{LiveIs, was_live, begins, went_on, taken_of, live_after, started_opens, started_as}
 use Rattle.register_law.proofs.RequestsKept.{Before, start_strong}
 use Rattle.register_law.proofs.OpeningsTold.{key_is_strong}
 
-opened_kind : (strongly : Bool) (tag : Tag) (at : DcId) (view : View) (ticket : Stamp) (work : Work) (taken : Taken) → strongly ≡ true → OpensAs strongly tag at view ticket work taken → IsOfStrong taken.state
-opened_kind strongly tag at view ticket work taken on (opens_read _ _ _ _ is) = subst (λ (x : Taken). IsOfStrong x.state) (sym is) tt
-opened_kind strongly tag at view ticket work taken on (opens_write _ _ _ _ _ is) = subst (λ (x : Taken). IsOfStrong x.state) (sym is) tt
-opened_kind strongly tag at view ticket work taken on (opens_move _ _ is) = subst (λ (x : Taken). IsOfStrong x.state) (sym is) tt
-opened_kind strongly tag at view ticket work taken on (opens_get _ off _ _) = absurd (cc)
-opened_kind strongly tag at view ticket work taken on (opens_put _ off _ _) = absurd (cc)
-opened_kind strongly tag at view ticket work taken on (opens_eventual_move off _ _) = absurd (cc)
+opened_kind : (tag : Tag) (at : DcId) (view : View) (ticket : Stamp) (work : Work) (taken : Taken) → OpensAs tag at view ticket true work taken → IsOfStrong taken.state
+opened_kind tag at view ticket work taken (opens_read member of) = tt
+opened_kind tag at view ticket work taken _ = tt
 
 kind_stays : (call : LiveCall) (message : Message) (view : View) (seen : ℕ) → IsOfStrong call → IsOfStrong (take call message view seen).state
 kind_stays (Strong call) message view seen h = tt
@@ -44,7 +40,7 @@ live_kinds_after key s g h is inv p handle live lives at_key = by (live_after s 
     by (begins at work st _ new) =
         let opened = started_opens s p at work h st in
         let strongly = start_strong key s g h p at work before st (sym opened.key_is ∙ ap key_of_call (sym new) ∙ at_key) in
-        subst IsOfStrong (sym new) (opened_kind _ _ _ _ _ work st.taken strongly (opens (is_strong_key s at) (first_tag (next_call s p) st.handle) (proxy_at s p).at (view_at (proxy_at s p).views at) (ticket_of (proxy_at s p) (view_at (proxy_at s p).views at) (next_call s p)) work st.taken st.first))
+        subst IsOfStrong (sym new) (opened_kind _ _ _ _ work st.taken (subst (λ (b : Bool). OpensAs (first_tag (next_call s p) st.handle) (proxy_at s p).at (view_at (proxy_at s p).views at) (ticket_of (proxy_at s p) (view_at (proxy_at s p).views at) (next_call s p)) b work st.taken) strongly (started_as s p at work h st)))
     by (went_on message old took _ new _) =
         let was = inv.ends.live_kinds p _ old took.live (sym (taken_key s p message old) ∙ ap key_of_call (sym new) ∙ at_key) in
         subst IsOfStrong (sym new) (kind_stays old message (view_at (learned (proxy_at s p) message).views (key_of_call old)) (learned (proxy_at s p) message).seen was)

@@ -1,6 +1,6 @@
 -- What a read gives, and what a write confirms, was stored and is kept.
-use Rattle.std.proofs.Common.{◌≡◌, ◌⊎◌, inl, inr, ℕ, List, ◌++◌, refl, sym, ap, ◌∙◌, subst, Option, Some, Contains}
-use Rattle.register_law.proofs.Words.{Call, KeyId, IsAtMost, Stamp, Found, counted, best_stamp, Stage, Second, CallState, ToRead, ToWrite, Store, Happening, Happened, IsReadOf, Begun, Ghost, noted_of, Inv, IsWork, MayRepair, IsKnown, Post, Tag, tag_after, Next, Leg, IsKept, WasSent, Contains-append_cases, StrongWork as Work, Work as Asked}
+use Rattle.std.proofs.Common.{◌≡◌, ◌⊎◌, inl, inr, ℕ, List, ◌++◌, refl, sym, ap, ◌∙◌, subst, Option, Some, Contains, subst₂}
+use Rattle.register_law.proofs.Words.{Call, KeyId, IsAtMost, Stamp, Found, counted, best_stamp, Stage, Second, CallState, ToRead, Store, Happening, Happened, IsReadOf, Begun, Ghost, noted_of, Inv, IsWork, MayRepair, IsKnown, Tag, IsKept, WasSent, Contains-append_cases, StrongWork as Work, Work as Asked}
 use Rattle.wire_msg.specs.declared.message.Message.TheVariants as m
 use Rattle.wire_msg.specs.declared.outputs.Reply.TheVariants as r
 use Rattle.strong_proxy.specs.declared.next.Next.TheVariants as n
@@ -12,9 +12,10 @@ use Rattle.register_law.proofs.Next.{AnswersWhen, at_mark, repaired}
 use Rattle.register_law.proofs.CallsBacked.{begun_before}
 use Rattle.register_law.proofs.CallsStrong.{ReadFloor, found_known, TookCounted, took_counted}
 use Rattle.register_law.proofs.Growth.{grows_by}
-use Rattle.register_law.proofs.CallsSent.{next_by, Demanded, plain, at_start, by_call, demanded, done_sends, DoneSends, LegSends}
+use Rattle.register_law.proofs.CallsSent.{next_by, Demanded, plain, at_start, by_call, demanded, call_sends, sends_confirm}
 use Rattle.register_law.proofs.CallsMessages.{rests_by}
-use Rattle.register_law.proofs.EndsBegun.{marked_begins_not, BeginsWith, begun_with}
+use Rattle.register_law.proofs.EndsBegun.{marked_begins_not}
+use Rattle.register_law.proofs.RequestsKept.{BeginsWith, begun_with}
 use Rattle.register_law.proofs.EndsAnswered.{AnsweredNow, answered_now, AnswerIs, gives, confirms, answer_is, now_counted}
 use Rattle.register_law.proofs.Basics.{is_some_of, sent_or_posted}
 use Rattle.register_law.proofs.FloorsMet.{stored_is_kept}
@@ -30,12 +31,7 @@ known_is_read key s stamp value (inl zero) = inl zero
 known_is_read key s stamp value (inr stored) = inr (stored.tag.call, record { tag = stored.tag; of = refl; sent = stored.sent })
 
 pub work_is_read : (work : Work) (asked : Asked) → work ≡ ToRead → IsWork work asked → asked ≡ w.Read
-work_is_read ToRead asked e h = h
-work_is_read (ToWrite value) asked e h = absurd (cc)
-
-repair_told : (key : KeyId) (s : Store) (work : Work) (stage : Stage) (best : Option Found) (found : Found) (floor : Stamp) → work ≡ ToRead → stage ≡ Second → best ≡ Some found → MayRepair key s work stage best floor → IsKnown key s found.stamp found.value × IsAtMost floor found.stamp
-repair_told key s ToRead Second (Some x) found floor a b e h = let same : x ≡ found = cc in subst (λ (y : Found). IsKnown key s y.stamp y.value × IsAtMost floor y.stamp) same h
-repair_told key s work stage best found floor a b e h = absurd (cc)
+work_is_read work asked e h = subst (λ (x : Work). IsWork x asked) e h
 
 -- what a read that answers gives is known, and isn't below what its begin found
 pub record GivesWell (key : KeyId) (s : Store) (b : Begun) (stamp : Stamp) (value : List ℕ) : Type 0 where
@@ -65,7 +61,7 @@ gives_well key s g h call b stamp value is inv floor a begun = by (answer_is (ne
       known = known_is_read key s found.stamp found.value (found_known key s g (counted a.was a.message) found inv.messages t.event.backed t.asked t.event.at_key work_is stage_is best);
     }
     found_well found best (repaired stage_is work_is quorum) =
-        let told = repair_told key s (counted a.was a.message).work (counted a.was a.message).progress.stage (counted a.was a.message).best found b.floor work_is stage_is best (t.event.backed.repair b of_now) in
+        let told = subst (λ (o : Option Found). MayRepair key s ToRead Second o b.floor) best (subst₂ (λ (w : Work) (x : Stage). MayRepair key s w x (counted a.was a.message).best b.floor) work_is stage_is (t.event.backed.repair b of_now)) in
         record {
           read = work_is_read (counted a.was a.message).work b.work work_is (t.event.backed.begun b of_now);
           above = told.1;
@@ -106,25 +102,6 @@ ok_reads_after key s g h is inv floor call b stamp value e c =
 
 -- ---- what a Confirm tells is kept
 
--- a write that confirms has stored
-record SendsConfirm (now : CallState) (next : Next) (key : KeyId) (stamp : Stamp) : Type 0 where
-  pub next_is : next ≡ n.Stored
-  pub stamp_is : now.progress.leg.ticket ≡ stamp
-  pub key_is : now.progress.key ≡ key
-
-leg_confirms_none : (X : Type 0) (work : Work) (at : KeyId) (of : Tag) (leg : Leg) (tag : Tag) (key : KeyId) (stamp : Stamp) → LegSends work at of leg (m.Confirm tag key stamp) → X
-leg_confirms_none X ToRead at of leg tag key stamp h = absurd (cc)
-leg_confirms_none X (ToWrite value) at of leg tag key stamp h = absurd (cc)
-
-sends_confirm : (now : CallState) (next : Next) (tag : Tag) (key : KeyId) (stamp : Stamp) → DoneSends now next (m.Confirm tag key stamp) → SendsConfirm now next key stamp
-sends_confirm now n.Stored tag key stamp h = record { next_is = refl; stamp_is = cc; key_is = cc }
-sends_confirm now n.Store tag key stamp h = absurd (let e = h.2 in cc)
-sends_confirm now n.Repair tag key stamp h = absurd (let e = h.2 in cc)
-sends_confirm now n.Look tag key stamp h = absurd (cc)
-sends_confirm now n.Moved tag key stamp h = absurd (cc)
-sends_confirm now (n.Enter leg) tag key stamp h = leg_confirms_none (SendsConfirm now (n.Enter leg) key stamp) now.work now.progress.key (tag_after now.progress) leg tag key stamp h
-sends_confirm now next tag key stamp h = absurd h
-
 -- what a Confirm tells is kept
 pub confirms_kept : (key : KeyId) (s : Store) (g : Ghost) (h : Happening) → Happened s h → Inv key s g → (tag : Tag) (stamp : Stamp) → WasSent h.store (m.Confirm tag key stamp) → IsKept key h.store (noted_of key s h g) stamp
 confirms_kept key s g h is inv tag stamp sent =
@@ -139,7 +116,7 @@ confirms_kept key s g h is inv tag stamp sent =
     from new (at_start p at asked st e) = absurd (cc)
     from new (by_call p message was took counts posts) =
         let c = sends_confirm (counted was message) (next_by s p message was) tag key stamp
-        (done_sends (next_by s p message was) (counted was message) (record { to = sent.0; message = m.Confirm tag key stamp }) (subst (λ (x : List Post). Contains x (record { to = sent.0; message = m.Confirm tag key stamp })) posts new)) in
+        (call_sends h (next_by s p message was) (counted was message) (m.Confirm tag key stamp) posts (sent.0, new)) in
         let t = took_counted key s g h p message was is inv took (sym (progress_after-key was.progress message) ∙ c.key_is) counts in
         let x = rests_by s p message was n.Stored c.next_is in
         subst (IsKept key s g) c.stamp_is (stored_is_kept key s g (counted was message) x.value inv t.event.backed t.asked t.event.at_key x.work_is x.stage_is x.quorum)

@@ -1,14 +1,15 @@
 -- What ends tell of what is settled is kept; a quorum of a leg meets what was settled, so reads and tickets are above what was answered before.
-use Rattle.std.proofs.Common.{◌≡◌, ℕ, true, List, ap, ◌∙◌, subst, arith, Some, ◌⊎◌, inl, inr, ◌+◌, ◌*◌, ◌≤◌, Bool, sym, ◌<◌, false, refl, Contains, nat_lt, None}
-use Rattle.register_law.proofs.Words.{has, faults_of, DcSet, KeyId, Quorum, IsAtMost, stamp_cmp, Stamp, Message, has_quorum, Found, best_stamp, Leg, Progress, Stage, First, Second, CallState, ToRead, ToWrite, Store, policy_of, Ghost, Inv, HasPolicy, IsAskedOf, IsStrongRequest, StrongCounted, TicketOf, YesCounted, HasMost, IsKept, WasSent, is_at_most, version_before, CallBacked, is_ge, common_steps, StrongWork as Work, members_of, FoundFrozen, FoundSettled, Within, both, count_of, IsAbove, Tag, Begun, HasAnswered, IsTagOf, HavesCounted, ticket_noted, IsAtMost-trans, NotedLeg}
+use Rattle.std.proofs.Common.{◌≡◌, ℕ, true, List, ap, ◌∙◌, subst, arith, Some, ◌⊎◌, inl, inr, ◌+◌, ◌*◌, ◌≤◌, Bool, sym, ◌<◌, false, refl, Contains, nat_lt, None, ltb-true, ltb-false, subst₂}
+use Rattle.register_law.proofs.Words.{has, faults_of, DcSet, KeyId, Quorum, IsAtMost, stamp_cmp, Stamp, Message, has_quorum, Found, best_stamp, Leg, Stage, First, Second, CallState, ToRead, ToWrite, Store, policy_of, Ghost, Inv, HasPolicy, IsAskedOf, StrongCounted, TicketOf, YesCounted, HasMost, IsKept, WasSent, is_at_most, version_before, CallBacked, is_ge, common_steps, StrongWork as Work, members_of, FoundFrozen, FoundSettled, Within, both, count_of, IsAbove, Tag, Begun, HasAnswered, IsTagOf, HavesCounted, ticket_noted, IsAtMost-trans, NotedLeg, and_left, and_right}
 use Rattle.wire_msg.specs.declared.message.Message.TheVariants as m
 use Rattle.strong_proxy.specs.declared.progress.Leg.{Leg as CallLeg}
-use Rattle.register_law.proofs.CallsStrong.{store_request, read_request, haves_of, ReadFloor, AskFloor}
-use Rattle.register_law.proofs.Quorums.{at_most_test, settled_below, member_is_in, faults_are_tolerance, shared, crossing, and_left, and_right, at_most_is}
+use Rattle.register_law.proofs.CallsStrong.{store_request, read_request, haves_of, ReadFloor, AskFloor, repairs_found}
+use Rattle.register_law.proofs.Quorums.{at_most_test, settled_below, member_is_in, shared, crossing, at_most_is}
 use Rattle.register_law.proofs.MovesTook.{most_pass, quorums_share, quorum_is}
 use Rattle.register_law.proofs.Next.{AnswersWhen, at_mark, repaired}
 use Rattle.register_law.proofs.CallsAnswers.{PhaseRequest}
 use Rattle.register_law.proofs.AnswersFence.{above_at_most}
+use Rattle.std.proofs.lemmas.Option.{same_Some}
 
 -- a lesser stamp is kept too
 pub kept_below : (key : KeyId) (s : Store) (g : Ghost) (high low : Stamp) → is_at_most low high ≡ true → IsKept key s g high → IsKept key s g low
@@ -19,18 +20,13 @@ asked_second ToRead Second member set is h = h
 asked_second (ToWrite value) Second member set is h = h
 asked_second work stage member set is h = absurd (cc)
 
-counted_second : (s : Store) (work : Work) (stage : Stage) (call : CallState) → stage ≡ Second → StrongCounted s work stage call → YesCounted s call.progress.phase
-counted_second s ToRead Second call is h = h
-counted_second s (ToWrite value) Second call is h = h
-counted_second s work stage call is h = absurd (cc)
-
 -- a stamp that whoever counted in a second phase with its number had is settled
 pub second_settles : (key : KeyId) (s : Store) (g : Ghost) (now : CallState) (stamp : Stamp) → CallBacked key s g now → now.progress.stage ≡ Second → has_quorum now.progress.leg.f now.progress.phase ≡ true
     → ((d : ℕ) → has now.progress.phase.good d ≡ true → IsAtMost stamp (version_before key s g d now.progress.leg.epoch)) → IsKept key s g stamp
 second_settles key s g now stamp b stage_is quorum each =
     let p : HasPolicy key s g now = b.policy in
     let epoch : ℕ = now.progress.leg.epoch in
-    let f_is : now.progress.leg.f ≡ faults_of (policy_of s key now.progress.leg.epoch) = ap (λ (x : Leg). x.f) p.leg ∙ faults_are_tolerance (policy_of s key now.progress.leg.epoch) in
+    let f_is : now.progress.leg.f ≡ faults_of (policy_of s key now.progress.leg.epoch) = ap (λ (x : Leg). x.f) p.leg in
     let set_is : now.progress.phase.asked ≡ p.member.write = asked_second now.work now.progress.stage p.member now.progress.phase.asked stage_is p.asked in
     let most : HasMost now.progress.leg.f now.progress.phase.asked (λ d. is_at_most stamp (version_before key s g d now.progress.leg.epoch)) =
     most_pass now.progress.leg.f now.progress.phase (λ d. is_at_most stamp (version_before key s g d now.progress.leg.epoch)) quorum b.within (λ d good. at_most_test stamp (version_before key s g d now.progress.leg.epoch) (each d good)) in
@@ -45,20 +41,13 @@ second_settles key s g now stamp b stage_is quorum each =
       };
     }
 
-repair_request : (work : Work) (stage : Stage) (call : CallState) (request : Message) (found : Found) → work ≡ ToRead → stage ≡ Second → call.best ≡ Some found → IsStrongRequest work stage call request → request ≡ m.Repair call.progress.phase.tag call.progress.key call.progress.leg.epoch found.stamp found.value
-repair_request ToRead Second call request found a b best h = (let e = h.1 in let k = h.2 in let same : h.0 ≡ found = cc in k ∙ ap (λ (x : Found). m.Repair call.progress.phase.tag call.progress.key call.progress.leg.epoch x.stamp x.value) same)
-repair_request work stage call request found a b best h = absurd (cc)
-
-ticket_epoch : (work : Work) (p : Progress) (value : List ℕ) → work ≡ ToWrite value → TicketOf work p → p.leg.ticket.epoch ≡ p.leg.epoch
-ticket_epoch (ToWrite v) p value is h = h.0
-ticket_epoch ToRead p value is h = absurd (cc)
-
 -- a read that has repaired gives a stamp that is kept
 pub repaired_is_kept : (key : KeyId) (s : Store) (g : Ghost) (now : CallState) (found : Found) → Inv key s g → CallBacked key s g now → PhaseRequest s now → now.progress.key ≡ key → now.work ≡ ToRead → now.progress.stage ≡ Second → has_quorum now.progress.leg.f now.progress.phase ≡ true → now.best ≡ Some found
     → IsKept key s g found.stamp
 repaired_is_kept key s g now found inv b asked at_key work_is stage_is quorum best_is =
-    let yes : YesCounted s now.progress.phase = counted_second s now.work now.progress.stage now stage_is b.counted in
-    let repair = repair_request now.work now.progress.stage now asked.request found work_is stage_is best_is asked.is in
+    let yes : YesCounted s now.progress.phase = subst₂ (λ (w : Work) (x : Stage). StrongCounted s w x now) work_is stage_is b.counted in
+    let asks = repairs_found now.work now.progress.stage now asked.request work_is stage_is asked.is in
+    let repair = asks.2 ∙ ap (λ (x : Found). m.Repair now.progress.phase.tag now.progress.key now.progress.leg.epoch x.stamp x.value) (same_Some asks.0 found (sym asks.1 ∙ best_is)) in
     let sent : WasSent s (m.Repair now.progress.phase.tag key now.progress.leg.epoch found.stamp found.value) =
     subst (λ (x : KeyId). WasSent s (m.Repair now.progress.phase.tag x now.progress.leg.epoch found.stamp found.value)) at_key (subst (λ (x : Message). WasSent s x) repair asked.sent) in
     second_settles key s g now found.stamp b stage_is quorum (λ d good. inv.answers.yes_repair now.progress.phase.tag d now.progress.leg.epoch found.stamp found.value sent (yes d good))
@@ -67,9 +56,9 @@ repaired_is_kept key s g now found inv b asked at_key work_is stage_is quorum be
 pub stored_is_kept : (key : KeyId) (s : Store) (g : Ghost) (now : CallState) (value : List ℕ) → Inv key s g → CallBacked key s g now → PhaseRequest s now → now.progress.key ≡ key → now.work ≡ ToWrite value → now.progress.stage ≡ Second → has_quorum now.progress.leg.f now.progress.phase ≡ true
     → IsKept key s g now.progress.leg.ticket
 stored_is_kept key s g now value inv b asked at_key work_is stage_is quorum =
-    let yes : YesCounted s now.progress.phase = counted_second s now.work now.progress.stage now stage_is b.counted in
+    let yes : YesCounted s now.progress.phase = subst₂ (λ (w : Work) (x : Stage). StrongCounted s w x now) work_is stage_is b.counted in
     let store = store_request now.work now.progress.stage now asked.request value work_is stage_is asked.is in
-    let epoch_is : now.progress.leg.ticket.epoch ≡ now.progress.leg.epoch = ticket_epoch now.work now.progress value work_is b.policy.ticket in
+    let epoch_is : now.progress.leg.ticket.epoch ≡ now.progress.leg.epoch = (subst (λ (w : Work). TicketOf w now.progress) work_is b.policy.ticket).0 in
     let sent : WasSent s (m.Store now.progress.phase.tag key now.progress.leg.ticket value) =
     subst (λ (x : KeyId). WasSent s (m.Store now.progress.phase.tag x now.progress.leg.ticket value)) at_key (subst (λ (x : Message). WasSent s x) store asked.sent) in
     second_settles key s g now now.progress.leg.ticket b stage_is quorum
@@ -151,19 +140,13 @@ sets_share key s g leg member set inv opened is_member which other is_other =
 pub leg_reaches : (key : KeyId) (s : Store) (g : Ghost) → Inv key s g → (leg : NotedLeg) (b : Begun) (member : Quorum) (set : DcSet) (good : ℕ → Bool) → g.begun leg.call ≡ Some b → Reaches key s g leg member set good → HadFloor leg good b.floor
 leg_reaches key s g inv leg b member set good begun r = by (nat_lt leg.epoch b.epoch) refl
   where
-    below : (x y : ℕ) → nat_lt x y ≡ true → x < y
-    below x y h = grind (arith, common_steps)
-
-    reaches : (x y : ℕ) → nat_lt x y ≡ false → y ≤ x
-    reaches x y h = grind (arith, common_steps)
-
     by : (t : Bool) → nat_lt leg.epoch b.epoch ≡ t → HadFloor leg good b.floor
     by true is =
-        let f = frozen_reached key s leg member set good r.is_member r.which r.within r.enough (inv.legs.blocked leg b r.noted begun (below leg.epoch b.epoch is)) in
+        let f = frozen_reached key s leg member set good r.is_member r.which r.within r.enough (inv.legs.blocked leg b r.noted begun (ltb-true leg.epoch b.epoch is)) in
         absurd (let over = f.2 in let open_still = r.runs f.0 f.1 in omega arith)
     by false is =
         let opened = (inv.legs.opened leg r.noted).0 in
-        let f = floor_reached key s leg set good b.floor r.within r.enough (sets_share key s g leg member set inv opened r.is_member r.which) (inv.legs.floor leg b r.noted begun (reaches leg.epoch b.epoch is)) in
+        let f = floor_reached key s leg set good b.floor r.within r.enough (sets_share key s g leg member set inv opened r.is_member r.which) (inv.legs.floor leg b r.noted begun (ltb-false leg.epoch b.epoch is)) in
         record { d = f.0; counted = f.1; had = at_most_is b.floor (leg.snap f.0).version f.2 }
 
 -- a read whose first phase has its number found a version of at least its floor
@@ -196,19 +179,7 @@ enough_in key s call epoch set f_is epoch_is asked quorum =
     (subst (λ (n : ℕ). count_of (has call.progress.phase.asked) ≤ count_of (has call.progress.phase.good) + n) f_is (quorum_is call.progress.leg.f call.progress.phase quorum)))
 
 faults_is : (key : KeyId) (s : Store) (g : Ghost) (call : CallState) → HasPolicy key s g call → call.progress.leg.f ≡ faults_of (policy_of s key call.progress.leg.epoch)
-faults_is key s g call p = ap (λ (x : CallLeg). x.f) p.leg ∙ faults_are_tolerance (policy_of s key call.progress.leg.epoch)
-
-asked_reads : (work : Work) (stage : Stage) (member : Quorum) (set : DcSet) → work ≡ ToRead → stage ≡ First → IsAskedOf work stage member set → set ≡ member.read
-asked_reads ToRead First member set a b h = h
-asked_reads work stage member set a b h = absurd (cc)
-
-asked_writes : (work : Work) (stage : Stage) (member : Quorum) (set : DcSet) (value : List ℕ) → work ≡ ToWrite value → stage ≡ First → IsAskedOf work stage member set → set ≡ member.write
-asked_writes (ToWrite v) First member set value a b h = h
-asked_writes work stage member set value a b h = absurd (cc)
-
-yes_of : (s : Store) (work : Work) (stage : Stage) (call : CallState) (value : List ℕ) → work ≡ ToWrite value → stage ≡ First → StrongCounted s work stage call → YesCounted s call.progress.phase
-yes_of s (ToWrite v) First call value a b h = h
-yes_of s work stage call value a b h = absurd (cc)
+faults_is key s g call p = ap (λ (x : CallLeg). x.f) p.leg
 
 pub reads_are_above : (key : KeyId) (s : Store) (g : Ghost) → Inv key s g → ReadFloor key s g
 reads_are_above key s g inv call best b backed at_key work stage quorum found begun =
@@ -216,7 +187,7 @@ reads_are_above key s g inv call best b backed at_key work stage quorum found be
     let n = backed.leg stage in
     let leg : NotedLeg = n.leg in
     let in_policy : Contains (members_of (policy_of s key call.progress.leg.epoch)) p.member = member_is_in (policy_of s key call.progress.leg.epoch) call.progress.at.0 p.member p.is_member in
-    let asked : call.progress.phase.asked ≡ p.member.read = asked_reads call.work call.progress.stage p.member call.progress.phase.asked work stage p.asked in
+    let asked : call.progress.phase.asked ≡ p.member.read = subst₂ (λ (w : Work) (x : Stage). IsAskedOf w x p.member call.progress.phase.asked) work stage p.asked in
     let haves : HavesCounted s call best = haves_of s call.work call.progress.stage call best work stage found backed.counted in
     read_floor key s g inv leg b p.member call.progress.phase.tag best call.progress.top_mark (has call.progress.phase.good)
     (ap g.begun n.call_is ∙ begun) n.noted (n.ticket_is ∙ ap (λ (x : Work). ticket_noted x call.progress.leg.ticket) work) (record { call = sym n.call_is; phase = sym n.phase_is })
@@ -231,10 +202,10 @@ asks_are_above key s g inv call value b backed at_key work stage quorum begun =
     let n = backed.leg stage in
     let leg : NotedLeg = n.leg in
     let in_policy : Contains (members_of (policy_of s key call.progress.leg.epoch)) p.member = member_is_in (policy_of s key call.progress.leg.epoch) call.progress.at.0 p.member p.is_member in
-    let asked : call.progress.phase.asked ≡ p.member.write = asked_writes call.work call.progress.stage p.member call.progress.phase.asked value work stage p.asked in
+    let asked : call.progress.phase.asked ≡ p.member.write = subst₂ (λ (w : Work) (x : Stage). IsAskedOf w x p.member call.progress.phase.asked) work stage p.asked in
     ask_floor key s g inv leg b p.member call.progress.phase.tag call.progress.leg.ticket (has call.progress.phase.good)
     (ap g.begun n.call_is ∙ begun) n.noted (n.ticket_is ∙ ap (λ (x : Work). ticket_noted x call.progress.leg.ticket) work) (record { call = sym n.call_is; phase = sym n.phase_is })
     (subst (λ (e : ℕ). Contains (members_of (policy_of s key e)) p.member) (sym n.epoch_is) in_policy)
     (λ d c. subst (λ (x : DcSet). has x d ≡ true) asked (backed.within d c))
     (enough_in key s call leg.epoch p.member.write (faults_is key s g call p) (sym n.epoch_is) asked quorum)
-    (yes_of s call.work call.progress.stage call value work stage backed.counted)
+    (subst₂ (λ (w : Work) (x : Stage). StrongCounted s w x call) work stage backed.counted)

@@ -1,23 +1,21 @@
 -- Every event lets the state and what is noted of it grow.
-use Rattle.std.proofs.Common.{◌≡◌, ℕ, ◌+◌, ◌-◌, ◌<◌, ◌≤◌, Bool, true, false, List, [], ◌∷◌, ◌++◌, refl, sym, ap, ◌∙◌, subst, arith, inl, inr, zero, suc, nat_lt, nat_le, ◌&&◌, if◌then◌else◌, length, slice_index, slice_index_or, ◌==◌, Option, Some, None, Contains, IsSome}
-use Rattle.register_law.proofs.Words.{KeyId, Policy, IsAtMost, Stamp, Message, Rises, State, latest, no_policy, set_of, table_in, can_switch, with_current, table_after, SetPolicy, Store, kept_of, policy_of, Happening, Happened, directory_took, published, Ghost, noted_of, version_before, greater, stamp_cmp, Call, Post, Reply, Kept, current_of, is_same_call, Mark, Proxy, no_proxy, proxy_at, end_marks, ticket_marks, with_proxy, call_took, gave_up, next_call, proxy_learned, proxy_stopped, refused_at_once, started, Begun, answered_with, begun_after, is_begun, is_noted, leg_of, legs_after, raised_by, top_after, Grows, Inv, is_gt, common_steps, IsAtMost-trans, Contains-there, NotedLeg as Leg}
+use Rattle.std.proofs.Common.{◌≡◌, ℕ, ◌+◌, ◌-◌, ◌<◌, ◌≤◌, Bool, true, false, List, [], ◌∷◌, ◌++◌, refl, sym, ap, ◌∙◌, subst, arith, inl, inr, zero, suc, nat_lt, nat_le, ◌&&◌, if◌then◌else◌, length, slice_index, slice_index_or, ◌==◌, Option, Some, None, Contains, IsSome, eqb-true}
+use Rattle.std.proofs.lemmas.List.{length_push}
+use Rattle.register_law.proofs.Words.{KeyId, Policy, IsAtMost, Stamp, Message, Rises, State, latest, no_policy, set_of, table_in, can_switch, with_current, table_after, SetPolicy, Store, kept_of, policy_of, Happening, Happened, directory_took, published, Ghost, noted_of, version_before, greater, stamp_cmp, Call, Post, Reply, Kept, current_of, is_same_call, Mark, Proxy, no_proxy, proxy_at, end_marks, ticket_marks, with_proxy, call_took, gave_up, next_call, proxy_learned, proxy_stopped, refused_at_once, started, Begun, answered_with, begun_after, is_begun, is_noted, leg_of, legs_after, raised_by, top_after, Grows, Inv, is_gt, common_steps, IsAtMost-trans, Contains-there, NotedLeg as Leg, IsAtMost-refl}
 use Rattle.wire_msg.specs.declared.message.Message.TheVariants as m
 use Rattle.epoch_directory.specs.Step.{step}
 use Rattle.run_marks.specs.declared.mark.Mark.TheVariants as k
 use Rattle.register_law.proofs.Kept.{rises, set_cases}
-use Rattle.register_law.proofs.Basics.{one_more, equal_is, sent_grows, is_made}
-
-pub at_most_itself : (t : Stamp) → IsAtMost t t
-at_most_itself t = grind (arith, common_steps)
+use Rattle.register_law.proofs.Basics.{sent_grows, is_made}
 
 -- with the two tests told
 before_by : (b c d : Bool) (v w x : Stamp) → (b ≡ true → c ≡ false → d ≡ true) → (b ≡ false → c ≡ false) → IsAtMost v w
     → IsAtMost (if b then v else x) (if c then w else (if b && d then v else x))
 before_by true true d v w x f g h = h
-before_by true false true v w x f g h = at_most_itself v
+before_by true false true v w x f g h = IsAtMost-refl v
 before_by true false false v w x f g h = absurd (let e = f refl refl in cc)
 before_by false true d v w x f g h = absurd (let e = g refl in cc)
-before_by false false d v w x f g h = at_most_itself x
+before_by false false d v w x f g h = IsAtMost-refl x
 
 fixed_by : (b c d : Bool) (v w x : Stamp) → b ≡ false → c ≡ false → (if c then w else (if b && d then v else x)) ≡ (if b then v else x)
 fixed_by true c d v w x p q = absurd (cc)
@@ -74,7 +72,7 @@ front_stays {X} (x ∷ xs) y d (suc i) lt = front_stays xs y d i (omega arith)
 pub directory_grows : (s : Store) (h : Happening) → Happened s h → KeepsTables s.directory h.store.directory
 directory_grows s h (directory_took message sent is) = subst (λ (x : Happening). KeepsTables s.directory x.store.directory) (sym is) (taken_tables s.directory message)
 directory_grows s h (published table right is) =
-    let one = one_more s.directory.tables (table_of table) in
+    let one = length_push s.directory.tables (table_of table) in
     subst (λ (x : Happening). KeepsTables s.directory x.store.directory) (sym is)
     (record { sets = refl; latest_grows = omega arith; tables = λ e a b. front_stays s.directory.tables (table_of table) [] (e - 1) (omega arith) })
   where
@@ -93,7 +91,7 @@ pub second_below : (a b : Stamp) → IsAtMost b (greater a b)
 second_below a b = chosen (is_gt (stamp_cmp b a)) refl
   where
     chosen : (t : Bool) → is_gt (stamp_cmp b a) ≡ t → IsAtMost b (if t then b else a)
-    chosen true e = at_most_itself b
+    chosen true e = IsAtMost-refl b
     chosen false e = grind (arith, common_steps)
 
 -- ---- every event lets the state and what is noted of it grow
@@ -120,18 +118,18 @@ below_greater a b = chosen (is_gt (stamp_cmp b a)) refl
   where
     chosen : (t : Bool) → is_gt (stamp_cmp b a) ≡ t → IsAtMost a (if t then b else a)
     chosen true e = grind (arith, common_steps)
-    chosen false e = at_most_itself a
+    chosen false e = IsAtMost-refl a
 
 raised_up : (o : Option Stamp) (top : Stamp) → IsAtMost top (raised_by o top)
-raised_up None top = at_most_itself top
+raised_up None top = IsAtMost-refl top
 raised_up (Some stamp) top = below_greater top stamp
 
 raised_if : (b : Bool) (o : Option Stamp) (top : Stamp) → IsAtMost top (if b then raised_by o top else top)
 raised_if true o top = raised_up o top
-raised_if false o top = at_most_itself top
+raised_if false o top = IsAtMost-refl top
 
 pub top_rises : (is_of : Call → Bool) (marks : List Mark) (top : Stamp) → IsAtMost top (top_after is_of marks top)
-top_rises is_of [] top = at_most_itself top
+top_rises is_of [] top = IsAtMost-refl top
 top_rises is_of (k.End call reply ∷ marks) top =
     IsAtMost-trans top (if is_of call then raised_by (answered_with reply) top else top) (top_after is_of marks (if is_of call then raised_by (answered_with reply) top else top))
     (raised_if (is_of call) (answered_with reply) top) (top_rises is_of marks (if is_of call then raised_by (answered_with reply) top else top))
@@ -166,8 +164,8 @@ and_is false b f = refl
 pub next_is_fresh : (s : Store) (p : ℕ) (other : Call) → other.seq ≤ (proxy_at s other.proxy).begun → is_same_call (next_call s p) other ≡ false
 next_is_fresh s p other le =
     and_is (p == other.proxy) ((proxy_at s p).begun + 1 == other.seq) (λ a b.
-    let same = equal_is p other.proxy a in
-    let seq = equal_is ((proxy_at s p).begun + 1) other.seq b in
+    let same = eqb-true p other.proxy a in
+    let seq = eqb-true ((proxy_at s p).begun + 1) other.seq b in
     let moved : other.seq ≤ (proxy_at s p).begun = subst (λ (n : ℕ). other.seq ≤ (proxy_at s n).begun) (sym same) le in
     omega arith)
 

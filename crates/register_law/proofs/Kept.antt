@@ -1,12 +1,12 @@
 -- What a replica keeps of a key after an event: what it kept, or what a message made of it; and nothing falls.
-use Rattle.std.proofs.Common.{◌≡◌, ◌⊎◌, inl, inr, ℕ, true, false, List, ◌∷◌, refl, sym, ap, ◌∙◌, subst, Bool, arith, zero, suc, slice_set, slice_index_or, Option, Some, None, Contains, ◌&&◌, not, if◌then◌else◌}
-use Rattle.register_law.proofs.Words.{KeyId, Message, kept_after, kept_at, key_of, step_at, Kept, Replica, Store, kept_of, no_replica, replica_at, Happening, with_replica, Happened, replica_stopped, replica_took, grants, stamp_cmp, stores, Stamp, Tag, after_merge, after_store, is_over, merge, IsKnown, WasSent, IsPushFree, request_key, IsAtMost, Rises, is_gt, common_steps}
+use Rattle.std.proofs.Common.{◌≡◌, ◌⊎◌, inl, inr, ℕ, true, false, List, ◌∷◌, refl, sym, ap, ◌∙◌, subst, Bool, zero, suc, slice_set, slice_index_or, Option, Some, None, Contains, ◌&&◌, not, if◌then◌else◌}
+use Rattle.register_law.proofs.Words.{KeyId, Message, kept_after, kept_at, key_of, step_at, Kept, Replica, Store, kept_of, no_replica, replica_at, Happening, with_replica, Happened, replica_stopped, replica_took, grants, stamp_cmp, stores, Stamp, Tag, after_merge, after_store, is_over, merge, IsKnown, WasSent, IsPushFree, request_key, Rises, is_gt, same_key}
 use Rattle.wire_msg.specs.declared.actor.Actor.TheVariants as to
 use Rattle.replica_core.specs.Keeping.{opening, after_ask}
 use Rattle.replica_core.specs.Rule.{State, step}
 use Rattle.wire_msg.specs.declared.message.Message.TheVariants as m
-use Rattle.replica_core.proofs.Falling.{kept_after_rises}
-use Rattle.register_law.proofs.Basics.{same_key, sent_grows, is_made}
+use Rattle.replica_core.proofs.Falling.{kept_after_rises, rises_itself}
+use Rattle.register_law.proofs.Basics.{sent_grows, is_made}
 
 -- what stands at a place after a change: what was there, or the new item, where the place is the changed one
 pub set_cases : {X : Type 0} → (xs : List X) (i j : ℕ) (y d : X) → (slice_index_or (slice_set xs i y) j d ≡ slice_index_or xs j d) ⊎ ((j ≡ i) × (slice_index_or (slice_set xs i y) j d ≡ y))
@@ -137,14 +137,8 @@ pub versions_known : (key : KeyId) (s : Store) (h : Happening) → Happened s h 
     → ((d : ℕ) → KeepsKnown key s (kept_of s d key)) → (d : ℕ) → KeepsKnown key h.store (kept_of h.store d key)
 versions_known key s h is carries no_push known d = version_from key s h d (kept_of h.store d key) is carries no_push (known d) (kept_cases key s h is d)
 
-stays : (kept : Kept) → Rises kept kept
-stays kept = record { version = at_most_itself kept.version; value = λ _. refl; mark = at_most_itself kept.mark; fence = at_most_itself kept.fence; frozen = omega arith }
-  where
-    at_most_itself : (t : Stamp) → IsAtMost t t
-    at_most_itself t = grind (arith, common_steps)
-
 rises_from : (key : KeyId) (s : Store) (d : ℕ) (new : Kept) → KeptIs key s d new → Rises (kept_of s d key) new
-rises_from key s d new (inl same) = subst (λ (x : Kept). Rises (kept_of s d key) x) (sym same) (stays (kept_of s d key))
+rises_from key s d new (inl same) = subst (λ (x : Kept). Rises (kept_of s d key) x) (sym same) (rises_itself (kept_of s d key))
 rises_from key s d new (inr took) = subst (λ (x : Kept). Rises (kept_of s d key) x) (sym took.is) (kept_after_rises (kept_of s d key) took.message)
 
 -- nothing that a replica keeps falls at any event

@@ -6,6 +6,7 @@ use Rattle.run_marks.specs.declared.mark.Mark.TheVariants as k
 use Rattle.world_core.specs.Starting as starting
 use Rattle.register_law.proofs.TagsCalls.{taken_of}
 use Rattle.register_law.proofs.Basics.{is_made}
+use Rattle.std.proofs.lemmas.Option.{same_Some}
 
 -- a call is given up, and lives no more
 pub record GivenUp (s : Store) (p : ℕ) (call : LiveCall) (h : Happening) : Type 0 where
@@ -61,117 +62,87 @@ in_start_marks X call key work ticket e f g c =
 pub moved : (xs ys : List Mark) (e : Mark) → xs ≡ ys → Contains xs e → Contains ys e
 moved xs ys e is c = subst (λ (x : List Mark). Contains x e) is c
 
+pub other_call : (X : Type 0) (e mark : Mark) (call : Call) → call_of e ≡ Some call → e ≡ mark → call_of mark ≡ None → X
+other_call X e mark call of is none = absurd (let k : call_of mark ≡ Some call = ap call_of (sym is) ∙ of in cc)
+
+-- ---- the table of the marks of an event: a row for each
+
+-- the last mark of a list
+abbrev pub last_mark : List Mark → Option Mark
+last_mark [] = None
+last_mark (mark ∷ []) = Some mark
+last_mark (_ ∷ mark ∷ marks) = last_mark (mark ∷ marks)
+
+-- a mark of an event, and where it comes from; an end is the last one
+pub data MarkIs (s : Store) (h : Happening) : Mark → Type 0 where
+  nobodys : (mark : Mark) → call_of mark ≡ None → MarkIs s h mark
+  refused_begin : (p : ℕ) (key : KeyId) (work : Work) (reply : Reply) → h.marks ≡ k.Begin (next_call s p) key work ∷ k.End (next_call s p) reply ∷ [] → MarkIs s h (k.Begin (next_call s p) key work)
+  refused_end : (p : ℕ) (key : KeyId) (work : Work) (reply : Reply) → p < length s.proxies → is_dead reply ≡ true → h.posts ≡ [] → h.marks ≡ k.Begin (next_call s p) key work ∷ k.End (next_call s p) reply ∷ [] → MarkIs s h (k.End (next_call s p) reply)
+  started_begin : (p : ℕ) (key : KeyId) (work : Work) → Started s p key work h → h.marks ≡ k.Begin (next_call s p) key work ∷ starting.ticket_marks (next_call s p) (start_ticket s p key) work → MarkIs s h (k.Begin (next_call s p) key work)
+  started_ticket : (p : ℕ) (key : KeyId) (work : Work) → h.marks ≡ k.Begin (next_call s p) key work ∷ starting.ticket_marks (next_call s p) (start_ticket s p key) work → MarkIs s h (k.Ticket (next_call s p) (start_ticket s p key))
+  call_ticket : (p : ℕ) (message : Message) (live : LiveCall) (stamp : Stamp) → CallTook s p message live h → (taken_of s p message live).out.ticket ≡ Some stamp → MarkIs s h (k.Ticket (tag_of message).call stamp)
+  call_end : (p : ℕ) (message : Message) (live : LiveCall) (reply : Reply) → CallTook s p message live h → (taken_of s p message live).out.end ≡ Some reply → MarkIs s h (k.End (tag_of message).call reply)
+  given_end : (p : ℕ) (live : LiveCall) → GivenUp s p live h → h.marks ≡ k.End (tag_of_call live).call r.GivenUp ∷ [] → MarkIs s h (k.End (tag_of_call live).call r.GivenUp)
+
+row_of : (s : Store) (h : Happening) (mark e : Mark) → MarkIs s h mark → e ≡ mark → MarkIs s h e
+row_of s h mark e row same = subst (MarkIs s h) (sym same) row
+
+pub mark_is : (s : Store) (h : Happening) → MarksAre s h → (e : Mark) → Contains h.marks e → MarkIs s h e
+mark_is s h (unmarked is) e c = absurd (none_among e (moved h.marks [] e is c))
+mark_is s h (of_no_call mark none is) e c = in_one (MarkIs s h e) mark e (row_of s h mark e (nobodys mark none)) (moved h.marks (mark ∷ []) e is c)
+mark_is s h (of_refused p key work reply lt dead posts is) e c =
+    in_two (MarkIs s h e) (k.Begin (next_call s p) key work) (k.End (next_call s p) reply) e (row_of s h _ e (refused_begin p key work reply is)) (row_of s h _ e (refused_end p key work reply lt dead posts is)) (moved h.marks _ e is c)
+mark_is s h (of_start p key work st is) e c =
+    in_start_marks (MarkIs s h e) (next_call s p) key work (start_ticket s p key) e (row_of s h _ e (started_begin p key work st is)) (row_of s h _ e (started_ticket p key work is)) (moved h.marks _ e is c)
+mark_is s h (of_call p message live took is) e c =
+    in_call_marks (MarkIs s h e) (tag_of message).call (taken_of s p message live).out.ticket (taken_of s p message live).out.end e
+    (λ stamp draws. row_of s h _ e (call_ticket p message live stamp took draws)) (λ reply ends. row_of s h _ e (call_end p message live reply took ends)) (moved h.marks _ e is c)
+mark_is s h (of_give_up p live given is) e c = in_one (MarkIs s h e) (k.End (tag_of_call live).call r.GivenUp) e (row_of s h _ e (given_end p live given is)) (moved h.marks _ e is c)
+
+-- ---- whose each mark is, and how a call begins, draws a ticket and ends in an event
+
 -- whose mark a mark of an event is
 pub data MarkOf (s : Store) (h : Happening) (call : Call) : Type 0 where
   begins_now : (key : KeyId) (work : Work) (rest : List Mark) → h.marks ≡ k.Begin call key work ∷ rest → MarkOf s h call
   takes_now : (p : ℕ) (message : Message) (live : LiveCall) → CallTook s p message live h → (tag_of message).call ≡ call → MarkOf s h call
   gives_up : (p : ℕ) (live : LiveCall) → GivenUp s p live h → (tag_of_call live).call ≡ call → MarkOf s h call
 
-some_call : (a b : Call) → Some a ≡ Some b → a ≡ b
-some_call a b e = cc
-
-pub other_call : (X : Type 0) (e mark : Mark) (call : Call) → call_of e ≡ Some call → e ≡ mark → call_of mark ≡ None → X
-other_call X e mark call of is none = absurd (let k : call_of mark ≡ Some call = ap call_of (sym is) ∙ of in cc)
-
 pub mark_of : (s : Store) (h : Happening) → MarksAre s h → (e : Mark) (call : Call) → call_of e ≡ Some call → Contains h.marks e → MarkOf s h call
-mark_of s h (unmarked is) e call of c = absurd (none_among e (moved h.marks [] e is c))
-mark_of s h (of_no_call mark none is) e call of c = in_one (MarkOf s h call) mark e (λ same. other_call (MarkOf s h call) e mark call of same none) (moved h.marks (mark ∷ []) e is c)
-mark_of s h (of_refused p key work reply lt dead _ is) e call of c =
-    in_two (MarkOf s h call) (k.Begin (next_call s p) key work) (k.End (next_call s p) reply) e (λ same. next (some_call (next_call s p) call (ap call_of (sym same) ∙ of))) (λ same. next (some_call (next_call s p) call (ap call_of (sym same) ∙ of)))
-    (moved h.marks _ e is c)
+mark_of s h are e call of c = by e (mark_is s h are e c) of
   where
-    next : next_call s p ≡ call → MarkOf s h call
-    next same = begins_now key work (k.End (next_call s p) reply ∷ []) (is ∙ ap (λ (x : Call). k.Begin x key work ∷ k.End (next_call s p) reply ∷ []) same)
-mark_of s h (of_start p key work st is) e call of c =
-    in_start_marks (MarkOf s h call) (next_call s p) key work (start_ticket s p key) e (λ same. next (some_call (next_call s p) call (ap call_of (sym same) ∙ of))) (λ same. next (some_call (next_call s p) call (ap call_of (sym same) ∙ of)))
-    (moved h.marks _ e is c)
-  where
-    next : next_call s p ≡ call → MarkOf s h call
-    next same = begins_now key work (starting.ticket_marks (next_call s p) (start_ticket s p key) work) (is ∙ ap (λ (x : Call). k.Begin x key work ∷ starting.ticket_marks (next_call s p) (start_ticket s p key) work) same)
-mark_of s h (of_call p message live took is) e call of c =
-    in_call_marks (MarkOf s h call) (tag_of message).call (taken_of s p message live).out.ticket (taken_of s p message live).out.end e
-    (λ stamp _ same. takes_now p message live took (some_call (tag_of message).call call (ap call_of (sym same) ∙ of))) (λ reply _ same. takes_now p message live took (some_call (tag_of message).call call (ap call_of (sym same) ∙ of)))
-    (moved h.marks _ e is c)
-mark_of s h (of_give_up p live given is) e call of c =
-    in_one (MarkOf s h call) (k.End (tag_of_call live).call r.GivenUp) e (λ same. gives_up p live given (some_call (tag_of_call live).call call (ap call_of (sym same) ∙ of))) (moved h.marks _ e is c)
-
--- ---- how a call begins, draws a ticket and ends in an event
+    by : (mark : Mark) → MarkIs s h mark → call_of mark ≡ Some call → MarkOf s h call
+    by mark (nobodys _ none) of = absurd (cc)
+    by mark (refused_begin p key work reply is) of = subst (MarkOf s h) (same_Some (next_call s p) call of) (begins_now key work _ is)
+    by mark (refused_end p key work reply _ _ _ is) of = subst (MarkOf s h) (same_Some (next_call s p) call of) (begins_now key work _ is)
+    by mark (started_begin p key work st is) of = subst (MarkOf s h) (same_Some (next_call s p) call of) (begins_now key work _ is)
+    by mark (started_ticket p key work is) of = subst (MarkOf s h) (same_Some (next_call s p) call of) (begins_now key work _ is)
+    by mark (call_ticket p message live stamp took _) of = takes_now p message live took (same_Some (tag_of message).call call of)
+    by mark (call_end p message live reply took _) of = takes_now p message live took (same_Some (tag_of message).call call of)
+    by mark (given_end p live given _) of = gives_up p live given (same_Some (tag_of_call live).call call of)
 
 -- nothing in the list begins a call
 abbrev pub BeginsNone : List Mark → Type 0
 BeginsNone marks = (call : Call) (key : KeyId) (work : Work) → Contains marks (k.Begin call key work) → ⊥
 
--- what an event begins, if it does: its first mark alone
-pub data BeginIs (h : Happening) : Type 0 where
-  begins_none : BeginsNone h.marks → BeginIs h
-  begins_one : (call : Call) (key : KeyId) (work : Work) (rest : List Mark) → h.marks ≡ k.Begin call key work ∷ rest → BeginsNone rest → BeginIs h
-
-nil_begins : BeginsNone []
-nil_begins call key work c = none_among (k.Begin call key work) c
-
 pub end_begins : (call : Call) (reply : Reply) → BeginsNone (k.End call reply ∷ [])
-end_begins other reply call key work c = in_one ⊥ (k.End other reply) (k.Begin call key work) (λ is. let k = is in absurd (cc)) c
+end_begins other reply call key work c = in_one ⊥ (k.End other reply) (k.Begin call key work) (λ is. cc) c
 
-ticket_begins : (call : Call) (ticket : Stamp) (b : Bool) → BeginsNone (if b then k.Ticket call ticket ∷ [] else [])
-ticket_begins other ticket true call key work c = in_one ⊥ (k.Ticket other ticket) (k.Begin call key work) (λ is. let k = is in absurd (cc)) c
+pub ticket_begins : (call : Call) (ticket : Stamp) (b : Bool) → BeginsNone (if b then k.Ticket call ticket ∷ [] else [])
+ticket_begins other ticket true call key work c = in_one ⊥ (k.Ticket other ticket) (k.Begin call key work) (λ is. cc) c
 ticket_begins other ticket false call key work c = none_among (k.Begin call key work) c
-
-pub call_begins : (call : Call) (t : Option Stamp) (o : Option Reply) → BeginsNone (ticket_marks call t ++ end_marks call o)
-call_begins other t o call key work c = in_call_marks ⊥ other t o (k.Begin call key work) (λ stamp _ is. absurd (cc)) (λ reply _ is. absurd (cc)) c
-
-no_call_begins : (mark : Mark) → call_of mark ≡ None → BeginsNone (mark ∷ [])
-no_call_begins mark none call key work c = in_one ⊥ mark (k.Begin call key work) (λ is. other_call ⊥ (k.Begin call key work) mark call refl is none) c
-
-pub begin_is : (s : Store) (h : Happening) → MarksAre s h → BeginIs h
-begin_is s h (unmarked is) = begins_none (subst BeginsNone (sym is) nil_begins)
-begin_is s h (of_no_call mark none is) = begins_none (subst BeginsNone (sym is) (no_call_begins mark none))
-begin_is s h (of_refused p key work reply lt dead _ is) = begins_one (next_call s p) key work (k.End (next_call s p) reply ∷ []) is (end_begins (next_call s p) reply)
-begin_is s h (of_start p key work st is) = begins_one (next_call s p) key work (starting.ticket_marks (next_call s p) (start_ticket s p key) work) is (ticket_begins (next_call s p) (start_ticket s p key) (draws_ticket work))
-begin_is s h (of_call p message call took is) = begins_none (subst BeginsNone (sym is) (call_begins (tag_of message).call (taken_of s p message call).out.ticket (taken_of s p message call).out.end))
-begin_is s h (of_give_up p call given is) = begins_none (subst BeginsNone (sym is) (end_begins (tag_of_call call).call r.GivenUp))
-
--- ---- which ticket a call draws in an event
 
 -- a call's ticket in an event
 pub data TicketIs (s : Store) (h : Happening) (call : Call) (stamp : Stamp) : Type 0 where
   drawn_first : (p : ℕ) (key : KeyId) → call ≡ next_call s p → stamp ≡ start_ticket s p key → TicketIs s h call stamp
   drawn_later : (p : ℕ) (message : Message) (live : LiveCall) → CallTook s p message live h → (tag_of message).call ≡ call → (taken_of s p message live).out.ticket ≡ Some stamp → TicketIs s h call stamp
 
-no_ticket : (X : Type 0) (call : Call) (stamp : Stamp) (mark : Mark) → k.Ticket call stamp ≡ mark → call_of mark ≡ None → X
-no_ticket X call stamp mark is none = absurd (let k : call_of mark ≡ Some call = ap call_of (sym is) in cc)
-
-begin_no_ticket : (X : Type 0) (call other : Call) (key : KeyId) (work : Work) (stamp : Stamp) → k.Ticket call stamp ≡ k.Begin other key work → X
-begin_no_ticket X call other key work stamp is = absurd (cc)
-
-end_no_ticket : (X : Type 0) (call other : Call) (stamp : Stamp) (reply : Reply) → k.Ticket call stamp ≡ k.End other reply → X
-end_no_ticket X call other stamp reply is = absurd (cc)
-
-same_ticket : (call other : Call) (stamp drawn : Stamp) → k.Ticket call stamp ≡ k.Ticket other drawn → (call ≡ other) × (stamp ≡ drawn)
-same_ticket call other stamp drawn is = (cc, cc)
-
 pub ticket_is : (s : Store) (h : Happening) → MarksAre s h → (call : Call) (stamp : Stamp) → Contains h.marks (k.Ticket call stamp) → TicketIs s h call stamp
-ticket_is s h (unmarked is) call stamp c = absurd (none_among (k.Ticket call stamp) (moved h.marks [] (k.Ticket call stamp) is c))
-ticket_is s h (of_no_call mark none is) call stamp c = in_one (TicketIs s h call stamp) mark (k.Ticket call stamp) (λ same. no_ticket (TicketIs s h call stamp) call stamp mark same none) (moved h.marks (mark ∷ []) (k.Ticket call stamp) is c)
-ticket_is s h (of_refused p key work given lt dead _ is) call stamp c =
-    in_two (TicketIs s h call stamp) (k.Begin (next_call s p) key work) (k.End (next_call s p) given) (k.Ticket call stamp) (λ same. begin_no_ticket (TicketIs s h call stamp) call (next_call s p) key work stamp same)
-    (λ same. end_no_ticket (TicketIs s h call stamp) call (next_call s p) stamp given same) (moved h.marks _ (k.Ticket call stamp) is c)
-ticket_is s h (of_start p key work st is) call stamp c =
-    in_start_marks (TicketIs s h call stamp) (next_call s p) key work (start_ticket s p key) (k.Ticket call stamp) (λ same. begin_no_ticket (TicketIs s h call stamp) call (next_call s p) key work stamp same)
-    (λ same. now (same_ticket call (next_call s p) stamp (start_ticket s p key) same)) (moved h.marks _ (k.Ticket call stamp) is c)
+ticket_is s h are call stamp c = by call stamp (mark_is s h are (k.Ticket call stamp) c)
   where
-    now : (call ≡ next_call s p) × (stamp ≡ start_ticket s p key) → TicketIs s h call stamp
-    now e = drawn_first p key e.0 e.1
-ticket_is s h (of_call p message live took is) call stamp c =
-    in_call_marks (TicketIs s h call stamp) (tag_of message).call (taken_of s p message live).out.ticket (taken_of s p message live).out.end (k.Ticket call stamp)
-    (λ drawn draws same. now drawn draws (same_ticket call (tag_of message).call stamp drawn same))
-    (λ reply _ same. end_no_ticket (TicketIs s h call stamp) call (tag_of message).call stamp reply same) (moved h.marks _ (k.Ticket call stamp) is c)
-  where
-    now : (drawn : Stamp) → (taken_of s p message live).out.ticket ≡ Some drawn → (call ≡ (tag_of message).call) × (stamp ≡ drawn) → TicketIs s h call stamp
-    now drawn draws e = drawn_later p message live took (sym e.0) (draws ∙ ap Some (sym e.1))
-ticket_is s h (of_give_up p live given is) call stamp c =
-    in_one (TicketIs s h call stamp) (k.End (tag_of_call live).call r.GivenUp) (k.Ticket call stamp) (λ same. end_no_ticket (TicketIs s h call stamp) call (tag_of_call live).call stamp r.GivenUp same) (moved h.marks _ (k.Ticket call stamp) is c)
-
--- ---- how a call ends in an event
+    by : (whose : Call) (drawn : Stamp) → MarkIs s h (k.Ticket whose drawn) → TicketIs s h whose drawn
+    by whose drawn (nobodys _ none) = absurd (cc)
+    by whose drawn (started_ticket p key _ _) = drawn_first p key refl refl
+    by whose drawn (call_ticket p message live _ took draws) = drawn_later p message live took refl draws
 
 -- how a call ends in an event
 pub data EndIs (s : Store) (h : Happening) (call : Call) (reply : Reply) : Type 0 where
@@ -179,62 +150,29 @@ pub data EndIs (s : Store) (h : Happening) (call : Call) (reply : Reply) : Type 
   by_message : (p : ℕ) (message : Message) (live : LiveCall) → CallTook s p message live h → (tag_of message).call ≡ call → (taken_of s p message live).out.end ≡ Some reply → EndIs s h call reply
   by_hand : (p : ℕ) (live : LiveCall) → GivenUp s p live h → (tag_of_call live).call ≡ call → reply ≡ r.GivenUp → EndIs s h call reply
 
-pub no_end : (X : Type 0) (call : Call) (reply : Reply) (mark : Mark) → k.End call reply ≡ mark → call_of mark ≡ None → X
-no_end X call reply mark is none = absurd (let k : call_of mark ≡ Some call = ap call_of (sym is) in cc)
-
-begin_no_end : (X : Type 0) (call other : Call) (key : KeyId) (work : Work) (reply : Reply) → k.End call reply ≡ k.Begin other key work → X
-begin_no_end X call other key work reply is = absurd (cc)
-
-ticket_no_end : (X : Type 0) (call other : Call) (stamp : Stamp) (reply : Reply) → k.End call reply ≡ k.Ticket other stamp → X
-ticket_no_end X call other stamp reply is = absurd (cc)
-
-same_end : (call other : Call) (reply given : Reply) → k.End call reply ≡ k.End other given → (other ≡ call) × (given ≡ reply)
-same_end call other reply given is = (cc, cc)
-
 pub end_is : (s : Store) (h : Happening) → MarksAre s h → (call : Call) (reply : Reply) → Contains h.marks (k.End call reply) → EndIs s h call reply
-end_is s h (unmarked is) call reply c = absurd (none_among (k.End call reply) (moved h.marks [] (k.End call reply) is c))
-end_is s h (of_no_call mark none is) call reply c = in_one (EndIs s h call reply) mark (k.End call reply) (λ same. no_end (EndIs s h call reply) call reply mark same none) (moved h.marks (mark ∷ []) (k.End call reply) is c)
-end_is s h (of_refused p key work given lt dead posts is) call reply c =
-    in_two (EndIs s h call reply) (k.Begin (next_call s p) key work) (k.End (next_call s p) given) (k.End call reply) (λ same. begin_no_end (EndIs s h call reply) call (next_call s p) key work reply same)
-    (λ same. now (same_end call (next_call s p) reply given same)) (moved h.marks _ (k.End call reply) is c)
+end_is s h are call reply c = by call reply (mark_is s h are (k.End call reply) c)
   where
-    now : (next_call s p ≡ call) × (given ≡ reply) → EndIs s h call reply
-    now e = at_once p key work lt (sym e.0) (subst (λ (x : Reply). is_dead x ≡ true) e.1 dead) posts (is ∙ ap (λ (x : Call). k.Begin x key work ∷ k.End x given ∷ []) e.0 ∙ ap (λ (x : Reply). k.Begin call key work ∷ k.End call x ∷ []) e.1)
-end_is s h (of_start p key work st is) call reply c =
-    in_start_marks (EndIs s h call reply) (next_call s p) key work (start_ticket s p key) (k.End call reply) (λ same. begin_no_end (EndIs s h call reply) call (next_call s p) key work reply same)
-    (λ same. ticket_no_end (EndIs s h call reply) call (next_call s p) (start_ticket s p key) reply same) (moved h.marks _ (k.End call reply) is c)
-end_is s h (of_call p message live took is) call reply c =
-    in_call_marks (EndIs s h call reply) (tag_of message).call (taken_of s p message live).out.ticket (taken_of s p message live).out.end (k.End call reply)
-    (λ stamp _ same. ticket_no_end (EndIs s h call reply) call (tag_of message).call stamp reply same)
-    (λ given ends same. now given ends (same_end call (tag_of message).call reply given same)) (moved h.marks _ (k.End call reply) is c)
-  where
-    now : (given : Reply) → (taken_of s p message live).out.end ≡ Some given → ((tag_of message).call ≡ call) × (given ≡ reply) → EndIs s h call reply
-    now given ends e = by_message p message live took e.0 (ends ∙ ap Some e.1)
-end_is s h (of_give_up p live given is) call reply c =
-    in_one (EndIs s h call reply) (k.End (tag_of_call live).call r.GivenUp) (k.End call reply) (λ same. now (same_end call (tag_of_call live).call reply r.GivenUp same)) (moved h.marks _ (k.End call reply) is c)
-  where
-    now : ((tag_of_call live).call ≡ call) × (r.GivenUp ≡ reply) → EndIs s h call reply
-    now e = by_hand p live given e.0 (sym e.1)
+    by : (whose : Call) (given : Reply) → MarkIs s h (k.End whose given) → EndIs s h whose given
+    by whose given (nobodys _ none) = absurd (cc)
+    by whose given (refused_end p key work _ lt dead posts is) = at_once p key work lt refl dead posts is
+    by whose given (call_end p message live _ took ends) = by_message p message live took refl ends
+    by whose given (given_end p live up _) = by_hand p live up refl refl
 
--- an event has one end at most
+-- an end stands last, so an event has one at most
+ends_last : (s : Store) (h : Happening) (call : Call) (reply : Reply) → MarkIs s h (k.End call reply) → last_mark h.marks ≡ Some (k.End call reply)
+ends_last s h call reply (nobodys _ none) = absurd (cc)
+ends_last s h call reply (refused_end p key work _ _ _ _ is) = ap last_mark is
+ends_last s h call reply (call_end p message live _ took ends) =
+    ap (λ (x : Happening). last_mark x.marks) took.is ∙ ap (λ (o : Option Reply). last_mark (ticket_marks (tag_of message).call (taken_of s p message live).out.ticket ++ end_marks (tag_of message).call o)) ends
+    ∙ behind_ticket (taken_of s p message live).out.ticket
+  where
+    behind_ticket : (o : Option Stamp) → last_mark (ticket_marks (tag_of message).call o ++ k.End (tag_of message).call reply ∷ []) ≡ Some (k.End (tag_of message).call reply)
+    behind_ticket None = refl
+    behind_ticket (Some stamp) = refl
+ends_last s h call reply (given_end p live _ is) = ap last_mark is
+
 pub one_end : (s : Store) (h : Happening) → MarksAre s h → (call other : Call) (one two : Reply) → Contains h.marks (k.End call one) → Contains h.marks (k.End other two) → one ≡ two
-one_end s h (unmarked is) call other one two a b = absurd (none_among (k.End call one) (moved h.marks [] (k.End call one) is a))
-one_end s h (of_no_call mark none is) call other one two a b = in_one (one ≡ two) mark (k.End call one) (λ same. no_end (one ≡ two) call one mark same none) (moved h.marks (mark ∷ []) (k.End call one) is a)
-one_end s h (of_refused p key work given lt dead _ is) call other one two a b = sym (as_given call one a) ∙ as_given other two b
-  where
-    as_given : (c : Call) (reply : Reply) → Contains h.marks (k.End c reply) → given ≡ reply
-    as_given c reply a = in_two (given ≡ reply) (k.Begin (next_call s p) key work) (k.End (next_call s p) given) (k.End c reply) (λ same. begin_no_end (given ≡ reply) c (next_call s p) key work reply same) (λ same. (same_end c (next_call s p) reply given same).1) (moved h.marks _ (k.End c reply) is a)
-one_end s h (of_start p key work st is) call other one two a b =
-    in_start_marks (one ≡ two) (next_call s p) key work (start_ticket s p key) (k.End call one) (λ same. begin_no_end (one ≡ two) call (next_call s p) key work one same) (λ same. ticket_no_end (one ≡ two) call (next_call s p) (start_ticket s p key) one same) (moved h.marks _ (k.End call one) is a)
-one_end s h (of_call p message live took is) call other one two a b = some_reply one two (sym (as_end call one a) ∙ as_end other two b)
-  where
-    some_reply : (x y : Reply) → Some x ≡ Some y → x ≡ y
-    some_reply x y e = cc
-
-    as_end : (c : Call) (reply : Reply) → Contains h.marks (k.End c reply) → (taken_of s p message live).out.end ≡ Some reply
-    as_end c reply a = in_call_marks ((taken_of s p message live).out.end ≡ Some reply) (tag_of message).call (taken_of s p message live).out.ticket (taken_of s p message live).out.end (k.End c reply)
-        (λ stamp _ same. ticket_no_end ((taken_of s p message live).out.end ≡ Some reply) c (tag_of message).call stamp reply same) (λ given ends same. ends ∙ ap Some (same_end c (tag_of message).call reply given same).1) (moved h.marks _ (k.End c reply) is a)
-one_end s h (of_give_up p live given is) call other one two a b = sym (as_given call one a) ∙ as_given other two b
-  where
-    as_given : (c : Call) (reply : Reply) → Contains h.marks (k.End c reply) → r.GivenUp ≡ reply
-    as_given c reply a = in_one (r.GivenUp ≡ reply) (k.End (tag_of_call live).call r.GivenUp) (k.End c reply) (λ same. (same_end c (tag_of_call live).call reply r.GivenUp same).1) (moved h.marks _ (k.End c reply) is a)
+one_end s h are call other one two a b =
+    let same : Some (k.End call one) ≡ Some (k.End other two) = sym (ends_last s h call one (mark_is s h are (k.End call one) a)) ∙ ends_last s h other two (mark_is s h are (k.End other two) b) in
+    cc

@@ -1,6 +1,6 @@
 -- What the marks of a key tell after every run.
 use Rattle.std.proofs.Common.{◌≡◌, List, [], ◌∷◌, ◌++◌, refl, sym, ap, ◌∙◌, subst, arith, inl, inr, ℕ, ◌≤◌, true, Contains, ◌==◌, ◌&&◌, Option, Some, None}
-use Rattle.register_law.proofs.Words.{Call, KeyId, IsAbove, IsAtMost, stamp_zero, Stamp, Reply, EndsWith, history_of, is_register_work, is_same_call, Mark, Work, Store, BegunAfter, IsReadOf, StoredBy, Begun, Ghost, answered_with, Inv, StoreBacked, Contains-append_right, Contains-append_left, some_passes, two_splits}
+use Rattle.register_law.proofs.Words.{Call, KeyId, IsAbove, IsAtMost, stamp_zero, Stamp, Reply, EndsWith, history_of, is_register_work, is_same_call, Mark, Work, Store, BegunAfter, IsReadOf, StoredBy, Begun, Ghost, answered_with, Inv, StoreBacked, Contains-append_right, Contains-append_left, some_passes, two_splits, and_left, and_right}
 use Rattle.wire_msg.specs.declared.outputs.Reply.TheVariants as r
 use Rattle.run_marks.specs.History.{begins_at, is_of, IsWriteOf, EndsBefore}
 use Rattle.run_marks.specs.declared.mark.Work.TheVariants as w
@@ -11,8 +11,8 @@ use Rattle.register_order.proofs.Begins.{begins_as_one}
 use Rattle.register_order.proofs.OfKey.{in_log, in_history, history_begins_once, history_begins_first, history_ends_once, ends_before_in_log, register_call_is_of}
 use Rattle.register_order.proofs.Tests.{same_call}
 use Rattle.register_order.proofs.Tickets.{numbered_above_zero}
-use Rattle.register_law.proofs.Quorums.{and_left, and_right}
 use Rattle.register_law.proofs.Basics.{register_noted, key_is, some_begun, is_some_of}
+use Rattle.std.proofs.lemmas.Option.{same_Some}
 
 -- where an item of two lists stands
 pub data Splits {X : Type 0} (a b e : List X) (x : X) (l : List X) : Type 0 where
@@ -76,9 +76,6 @@ begin_marked key s g inv call b begun = let a : BegunAfter g call b key = inv.en
 
 same_fields : (a b : Call) → a.proxy ≡ b.proxy → a.seq ≡ b.seq → a ≡ b
 same_fields a b p q = ap (λ n. let c : Call = record { proxy = n; seq = a.seq } in c) p ∙ ap (λ n. let c : Call = record { proxy = b.proxy; seq = n } in c) q
-
-same_begun : (a b : Begun) (o : Option Begun) → o ≡ Some a → o ≡ Some b → a ≡ b
-same_begun a b o e f = cc
 
 same_written : (v u : List ℕ) → w.Write v ≡ w.Write u → v ≡ u
 same_written v u e = cc
@@ -183,7 +180,7 @@ marks_tell key s g inv = record {
   stored_once = λ call one other v u a b.
       (let x = is_stored key s g inv call one v a in
       let y = is_stored key s g inv call other u b in
-      let same : x.b ≡ y.b = same_begun x.b y.b (g.begun call) x.begun y.begun in
+      let same : x.b ≡ y.b = same_Some x.b y.b (sym x.begun ∙ y.begun) in
       (inv.messages.one_store a.tag b.tag one other v u a.sent b.sent (a.of ∙ sym b.of), same_written v u (sym x.work ∙ ap (λ (c : Begun). c.work) same ∙ y.work)));
   reads = λ call stamp value h. reads_told key s g inv call stamp value h.ended;
   writes = λ call stamp h.

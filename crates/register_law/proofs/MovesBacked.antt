@@ -1,13 +1,13 @@
 -- A move that goes on is backed.
 use Rattle.std.proofs.Common.{◌≡◌, ℕ, ◌<◌, ◌≤◌, true, false, List, refl, sym, ap, ◌∙◌, subst, arith, ◌==◌, Option, Some, None, Contains}
-use Rattle.register_law.proofs.Words.{has, no_centre, faults_of, members_of, DcSet, DcId, KeyId, Policy, Stamp, Step, tag_of, Message, Tag, better, counts, has_quorum, with_good, Found, Phase, Moving, epoch_at, first_write_set, quorum_frozen, strong_rule, Epoch, Freezing, Seeding, Handle, Store, policy_of, Ghost, Inv, FreezesCounted, IsLiveMove, IsMoveRequest, IsTargetOf, MoveBacked, SeedsBacked, YesCounted, Grows, HasMost, IsFrozenSet, IsKnown, IsSettled, MeetsAll, WasSent, is_at_most, version_before, HereBacked, SwitchBacked, request_key, common_steps, has-no_centre, MoveStage as Stage, IsAtMost-trans}
+use Rattle.register_law.proofs.Words.{has, no_centre, faults_of, members_of, DcSet, DcId, KeyId, Policy, Stamp, Step, tag_of, Message, Tag, better, counts, has_quorum, with_good, Found, Phase, Moving, epoch_at, first_write_set, quorum_frozen, strong_rule, Epoch, Freezing, Seeding, Handle, Store, policy_of, Ghost, Inv, FreezesCounted, IsLiveMove, IsMoveRequest, IsTargetOf, MoveBacked, SeedsBacked, YesCounted, Grows, HasMost, IsFrozenSet, IsKnown, IsSettled, MeetsAll, WasSent, is_at_most, version_before, HereBacked, SwitchBacked, request_key, common_steps, has-no_centre, MoveStage as Stage, IsAtMost-trans, none_in}
 use Rattle.wire_msg.specs.declared.message.Message.TheVariants as m
 use Rattle.call_phase.proofs.Tags.{same_tag}
 use Rattle.migration.specs.declared.stage.Stage.TheVariants.{Looking}
 use Rattle.register_law.proofs.Quorums.{at_most_test}
-use Rattle.register_law.proofs.MovesStep.{MoveTook, unheard, was_current, froze_first, froze_one, froze_all, seeded_next, seeded_all, was_refused, was_stale, arrived, counts_own}
+use Rattle.register_law.proofs.MovesStep.{MoveTook, unheard, was_current, froze_first, froze_one, froze_all, seeded_next, seeded_all, was_refused, was_stale, arrived, counts_own, counts_asked}
 use Rattle.register_law.proofs.MovesStable.{IsOut, settled_stays, move_stays, seeds_stay, target_stays, freezes_stay, yes_stays}
-use Rattle.register_law.proofs.MovesTook.{first_member, frozen_meets, most_pass, counts_asked, none_in, within_good, yes_more, froze_more, better_some}
+use Rattle.register_law.proofs.MovesTook.{first_member, frozen_meets, most_pass, within_good, yes_more, froze_more, better_some}
 
 -- an answer with the move's tag answers the request of its phase
 pub record AnswersMove (key : KeyId) (s : Store) (call : Moving) : Type 0 where

@@ -1,6 +1,6 @@
 -- No event posts a request of the present phase of a live move, and each keeps what the moves of the key rest on.
 use Rattle.std.proofs.Common.{◌≡◌, ℕ, [], ap, subst, arith, Bool, ◌∙◌, ◌+◌, List, refl, sym, Contains, Some, Option, None, IsSome, inl, inr, ◌⊎◌}
-use Rattle.register_law.proofs.Words.{KeyId, Actor, Message, Post, Work, Store, replica_at, Happening, LiveCall, CallTook, Happened, Started, call_took, directory_took, replica_took, started, WasSent, DcId, Stamp, tag_of, View, Tag, next_tag, Taken, key_of_call, tag_of_call, take, opened_call, request_key, DcSet, Moving, item_at, Handle, first_tag, ticket_of, proxy_at, view_at, handle_in, is_strong_key, next_call, Ghost, Inv, IsLiveAt, IsSamePoint, TagsTellApart, no_centre, Step, strong_rule, Seeding, noted_of, IsLiveMove, IsMoveRequest, OneMove, MoveStage as Stage}
+use Rattle.register_law.proofs.Words.{KeyId, Actor, Message, Post, Work, Store, replica_at, Happening, LiveCall, CallTook, Happened, Started, call_took, directory_took, replica_took, started, WasSent, DcId, Stamp, tag_of, View, Tag, next_tag, Taken, key_of_call, tag_of_call, take, request_key, DcSet, Moving, Handle, first_tag, ticket_of, proxy_at, view_at, handle_in, is_strong_key, next_call, Ghost, Inv, IsLiveAt, IsSamePoint, TagsTellApart, no_centre, Step, strong_rule, Seeding, noted_of, IsLiveMove, IsMoveRequest, OneMove, MoveStage as Stage}
 use Rattle.wire_msg.specs.declared.actor.Actor.TheVariants as to
 use Rattle.replica_core.specs.Rule as replica
 use Rattle.epoch_directory.specs.Step as directory_step
@@ -8,17 +8,18 @@ use Rattle.wire_msg.specs.declared.message.Message.TheVariants as m
 use Rattle.world_core.specs.declared.live.LiveCall.TheVariants as live
 use Rattle.migration.specs.declared.stage.Stage.TheVariants.{Ended}
 use Rattle.migration.specs.Move as moving
-use Rattle.register_law.proofs.Basics.{Each, WasPosted, sent_cases, each_one, is_made}
-use Rattle.register_law.proofs.TagsCalls.{taken_of, same_place, next_is_none, LiveIs, was_live, begins, went_on, live_after}
-use Rattle.register_law.proofs.TagsSteps.{may_ask, take_goes_on, call_opens}
+use Rattle.register_law.proofs.Basics.{Each, WasPosted, sent_cases, is_made, each_look}
+use Rattle.register_law.proofs.TagsCalls.{taken_of, same_place, next_is_none, LiveIs, was_live, begins, went_on, live_after, started_as, started_opens}
+use Rattle.register_law.proofs.TagsSteps.{may_ask, take_goes_on}
 use Rattle.register_law.proofs.TagsSent.{goes_sends, IsReplicaPost, answers_it, passes_on, replica_posts, answer_is_none, IsDirectoryPost, tells_here, tells_switched, directory_posts}
 use Rattle.register_law.specs.Live.{MovesAreBacked}
 use Rattle.register_law.proofs.MovesStep.{MoveTook, move_took, made_by}
 use Rattle.register_law.proofs.MovesStable.{move_stays}
 use Rattle.register_law.proofs.MovesBacked.{backed_after}
-use Rattle.register_law.proofs.CallsRows.{opens, OpensAs, opens_read, opens_write, opens_move, opens_get, opens_put, opens_eventual_move}
+use Rattle.register_law.proofs.CallsRows.{OpensAs, opens_move}
 use Rattle.register_law.proofs.Growth.{grows_by}
 use Rattle.register_law.proofs.MovesTook.{Asking, Asked, before, now, none_within, took_within, took_request}
+use Rattle.std.proofs.lemmas.Option.{same_Some}
 
 -- who posted what
 pub data Posted (s : Store) (h : Happening) (post : Post) : Type 0 where
@@ -50,19 +51,16 @@ take_own call message view seen post c =
     let is : post.message ≡ sends.message = sends.copies post c in
     record { tag_is = ap tag_of is ∙ sends.tagged; key_is = ap request_key is ∙ sends.at_key }
 
-pub opened_own : (strongly : Bool) (tag : Tag) (at : DcId) (view : View) (ticket : Stamp) (work : Work) (taken : Taken) → opened_call strongly tag at view ticket work ≡ Some taken → Each (IsOwn tag view.key) taken.out.posts
-opened_own strongly tag at view ticket work taken e post c = let two = (call_opens strongly tag at view ticket work taken e).requests post c in record { tag_is = two.0; key_is = two.1 }
+pub opened_own : (s : Store) (p : ℕ) (at : KeyId) (work : Work) (h : Happening) (st : Started s p at work h) → Each (IsOwn (first_tag (next_call s p) st.handle) (view_at (proxy_at s p).views at).key) st.taken.out.posts
+opened_own s p at work h st post c = let two = (started_opens s p at work h st).requests post c in record { tag_is = two.0; key_is = two.1 }
 
 -- ---- no event posts a request of the present phase of a call that was live before
-
-same_item : (o : Option LiveCall) (first second : LiveCall) → o ≡ Some first → o ≡ Some second → first ≡ second
-same_item o first second one other = cc
 
 -- one call under two handles is in one state
 pub same_live : (s : Store) → TagsTellApart s → (p q : ℕ) (a b : Handle) (first second : LiveCall) → IsLiveAt s p a first → IsLiveAt s q b second → (tag_of_call first).call ≡ (tag_of_call second).call → first ≡ second
 same_live s tags p q a b first second one other same =
     let place = same_place s tags p q a b first second one other same in
-    same_item (item_at (proxy_at s p).calls a) first second one (subst (λ (x : Handle). IsLiveAt s p x second) (sym place.1) (subst (λ (n : ℕ). IsLiveAt s n b second) (sym place.0) other))
+    same_Some first second (sym one ∙ subst (λ (x : Handle). IsLiveAt s p x second) (sym place.1) (subst (λ (n : ℕ). IsLiveAt s n b second) (sym place.0) other))
 
 abbrev pub live_move : Moving → LiveCall
 live_move call = live.StrongMove call
@@ -84,7 +82,7 @@ pub record WasPush (s : Store) (message : Message) : Type 0 where
 pub posted_by_none : (key : KeyId) (s : Store) (g : Ghost) (h : Happening) → Inv key s g → (p : ℕ) (handle : Handle) (call : LiveCall) → IsLiveAt s p handle call → (to : Actor) (request : Message) → Posted s h (record { to = to; message = request })
     → IsSome (request_key request) → IsSamePoint (tag_of request) (tag_of_call call) → WasPush s request
 posted_by_none key s g h inv p handle call live to request (by_start q at work st c) some same =
-    let own = opened_own (is_strong_key s at) (first_tag (next_call s q) st.handle) (proxy_at s q).at (view_at (proxy_at s q).views at) (ticket_of (proxy_at s q) (view_at (proxy_at s q).views at) (next_call s q)) work st.taken st.first (record { to = to; message = request }) c in
+    let own = opened_own s q at work h st (record { to = to; message = request }) c in
     absurd (next_is_none s q (tag_of_call call) (next_call s q) (inv.tags.live_numbered p handle call live).0 (sym same.call ∙ ap (λ (t : Tag). t.call) own.tag_is) refl)
 posted_by_none key s g h inv p handle call live whom request (by_replica d message sent c) some same =
     pushed (replica_posts (replica_at s d).state message (record { to = whom; message = request }) c)
@@ -140,17 +138,10 @@ same_move a b e = ap (λ (x : LiveCall). move_in x a) e
 abbrev begun_move : Tag → KeyId → Moving
 begun_move tag key = (moving.started tag key).state
 
-begins_as : (strongly : Bool) (tag : Tag) (at : DcId) (view : View) (ticket : Stamp) (work : Work) (taken : Taken) (call : Moving) → OpensAs strongly tag at view ticket work taken → live_move call ≡ taken.state
+begins_as : (tag : Tag) (at : DcId) (view : View) (ticket : Stamp) (strongly : Bool) (work : Work) (taken : Taken) (call : Moving) → OpensAs tag at view ticket strongly work taken → live_move call ≡ taken.state
     → (call ≡ begun_move tag view.key) × Each (λ (x : Message). x ≡ m.Lookup tag view.key) taken.out.posts
-begins_as strongly tag at view ticket work taken call (opens_read _ _ _ _ is) e = absurd (let k = e ∙ ap (λ (x : Taken). x.state) is in cc)
-begins_as strongly tag at view ticket work taken call (opens_write _ _ _ _ _ is) e = absurd (let k = e ∙ ap (λ (x : Taken). x.state) is in cc)
-begins_as strongly tag at view ticket work taken call (opens_move _ _ is) e = (
-  same_move call (begun_move tag view.key) (e ∙ ap (λ (x : Taken). x.state) is),
-  subst (λ (x : Taken). Each (λ (y : Message). y ≡ m.Lookup tag view.key) x.out.posts) (sym is) (each_one (λ (y : Message). y ≡ m.Lookup tag view.key) (record { to = to.Directory; message = m.Lookup tag view.key }) refl),
-)
-begins_as strongly tag at view ticket work taken call (opens_get _ _ _ is) e = absurd (let k = e ∙ ap (λ (x : Taken). x.state) is in cc)
-begins_as strongly tag at view ticket work taken call (opens_put _ _ _ is) e = absurd (let k = e ∙ ap (λ (x : Taken). x.state) is in cc)
-begins_as strongly tag at view ticket work taken call (opens_eventual_move _ _ is) e = absurd (let k = e ∙ ap (λ (x : Taken). x.state) is in cc)
+begins_as tag at view ticket strongly work taken call opens_move e = (same_move call (begun_move tag view.key) e, each_look (λ (x : Message). x ≡ m.Lookup tag view.key) tag view.key refl)
+begins_as tag at view ticket strongly work taken call _ e = absurd (cc)
 
 new_request : (key : KeyId) (s : Store) (g : Ghost) (h : Happening) → Inv key s g → (p : ℕ) (at : KeyId) (work : Work) (st : Started s p at work h) (only : Message) → Each (λ (x : Message). x ≡ only) st.taken.out.posts
     → (request : Message) → WasSent s request ⊎ WasPosted h request → (tag_of request).call ≡ next_call s p → request ≡ only
@@ -161,8 +152,7 @@ new_move : (key : KeyId) (s : Store) (g : Ghost) (h : Happening) → Inv key s g
 new_move key s g h inv is p at work st call e =
     let tag : Tag = first_tag (next_call s p) st.handle in
     let view : View = view_at (proxy_at s p).views at in
-    let o = opens (is_strong_key s at) tag (proxy_at s p).at view (ticket_of (proxy_at s p) view (next_call s p)) work st.taken st.first in
-    let begun = begins_as (is_strong_key s at) tag (proxy_at s p).at view (ticket_of (proxy_at s p) view (next_call s p)) work st.taken call o e in
+    let begun = begins_as tag (proxy_at s p).at view (ticket_of (proxy_at s p) view (next_call s p)) (is_strong_key s at) work st.taken call (started_as s p at work h st) e in
     subst (OneMove key h.store (noted_of key s h g)) (sym begun.0)
     (record {
       request = λ request sent some same. new_request key s g h inv p at work st (m.Lookup tag view.key) begun.1 request (sent_cases s h request is sent) same.call;

@@ -1,9 +1,10 @@
 -- What was sent, known, settled or kept, and what a move rests on, stays so as the state grows.
 use Rattle.std.proofs.Common.{inl, inr, ℕ, List, ◌≡◌, ◌≤◌, Bool, sym, subst, arith, Contains, ◌∙◌, Option, Some, None}
-use Rattle.register_law.proofs.Words.{KeyId, Stamp, Message, Store, Ghost, Grows, IsKnown, WasSent, has, faults_of, members_of, Policy, latest, policy_of, HasMost, IsKept, IsSettled, both, is_at_most, version_before, range_with_len, DcSet, IsAtMost, Found, Phase, Epoch, Freezing, Seeding, Switching, FoundFrozen, FoundSettled, FreezesCounted, FrozenCounted, IsTargetOf, MoveBacked, SeedsBacked, WasAnswered, YesCounted, IsFrozenSet, MeetsAll, HereBacked, SwitchBacked, MoveStage as Stage, NotedLeg as Leg}
+use Rattle.std.proofs.lemmas.Bool.{and_from}
+use Rattle.register_law.proofs.Words.{KeyId, Stamp, Message, Store, Ghost, Grows, IsKnown, WasSent, has, faults_of, members_of, Policy, latest, policy_of, HasMost, IsKept, IsSettled, both, is_at_most, version_before, range_with_len, DcSet, IsAtMost, Found, Phase, Epoch, Freezing, Seeding, Switching, FoundFrozen, FoundSettled, FreezesCounted, FrozenCounted, IsTargetOf, MoveBacked, SeedsBacked, WasAnswered, YesCounted, IsFrozenSet, MeetsAll, HereBacked, SwitchBacked, MoveStage as Stage, NotedLeg as Leg, and_left, and_right}
 use Rattle.wire_msg.specs.declared.message.Message.TheVariants as m
 use Rattle.migration.specs.declared.stage.Stage.TheVariants.{Looking, Ended}
-use Rattle.register_law.proofs.Quorums.{at_most_test, at_most_trans, count_mono, and_left, and_right, and_both}
+use Rattle.register_law.proofs.Quorums.{at_most_test, at_most_trans, count_mono}
 
 pub sent_stays : (key : KeyId) (s : Store) (g : Ghost) (z : Store) (h : Ghost) (message : Message) → Grows key s g z h → WasSent s message → WasSent z message
 sent_stays key s g z h message grows sent = (sent.0, grows.sent (record { to = sent.0; message = message }) sent.1)
@@ -26,7 +27,7 @@ settled_stays key s g z h e u grows out old =
     let was : ℕ → Bool = λ d. is_at_most u (version_before key s g d e) in
     let now : ℕ → Bool = λ d. is_at_most u (version_before key z h d e) in
     let more = count_mono (both w was) (both w now)
-    (λ d k. and_both (w d) (now d) (and_left (w d) (was d) k) (at_most_trans u (version_before key s g d e) (version_before key z h d e) (and_right (w d) (was d) k) (at_most_test (version_before key s g d e) (version_before key z h d e) (grows.before d e))))
+    (λ d k. and_from (w d) (now d) (and_left (w d) (was d) k) (at_most_trans u (version_before key s g d e) (version_before key z h d e) (and_right (w d) (was d) k) (at_most_test (version_before key s g d e) (version_before key z h d e) (grows.before d e))))
     (range_with_len 0 16) in
     let had = old.settled in
     let has_most : HasMost (faults_of (policy_of s key e)) old.member.write now = omega arith in

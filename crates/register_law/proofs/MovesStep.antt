@@ -1,30 +1,33 @@
 -- What a move does with a message; only an answer under its own tag counts.
 use Rattle.std.proofs.Common.{◌≡◌, Bool, true, false, refl, ◌&&◌, not, ℕ, List, sym, ap, ◌∙◌, subst, ◌==◌, if◌then◌else◌, max, Option, Some, None}
-use Rattle.register_law.proofs.Words.{has, DcId, tag_of, Message, Tag, counts, counts_without_replica, is_same_tag, Phase, is_counted, progress_after, takes_have, takes_yes, Progress, CallState, DcSet, KeyId, Policy, Stamp, Step, Reply, View, better, with_bad, with_good, Found, Moving, epoch_at, unchanged, Rule, Epoch, Freezing, Seeding, Switching, MoveStage as Stage}
+use Rattle.register_law.proofs.Words.{has, DcId, tag_of, Message, Tag, counts, counts_without_replica, is_same_tag, Phase, is_counted, progress_after, takes_have, takes_yes, Progress, CallState, DcSet, KeyId, Policy, Stamp, Step, Reply, View, better, with_bad, with_good, Found, Moving, epoch_at, unchanged, Rule, Epoch, Freezing, Seeding, Switching, MoveStage as Stage, and_right, and_left}
 use Rattle.wire_msg.specs.declared.message.Message.TheVariants as m
 use Rattle.strong_proxy.specs.Counting.{takes_held, takes_gone, takes_here}
 use Rattle.call_phase.proofs.Tags.{same_tag}
 use Rattle.wire_msg.specs.declared.outputs.Reply.TheVariants as r
 use Rattle.migration.specs.declared.stage.Stage.TheVariants.{Looking}
 use Rattle.migration.specs.Move.{waits, seeds, switches, freezes, looked, froze, seeded_one, refused_one, ends_at, ends_stale, ends_current, on_here, on_have, on_yes, on_gone, on_switched, step}
-use Rattle.register_law.proofs.Quorums.{and_right}
 
 -- counting changes no tag
 pub counted_tag : (p : Progress) (message : Message) → (progress_after p message).phase.tag ≡ p.phase.tag
 counted_tag p (m.Have tag replica version mark value) = refl
 counted_tag p message = refl
 
-pub first_of_four : (a b c d : Bool) → (a && b && c && d) ≡ true → a ≡ true
-first_of_four true b c d h = refl
-first_of_four false b c d h = absurd (cc)
+first_two : (a b c d : Bool) → (a && b && c && d) ≡ true → (a && b) ≡ true
+first_two a b c d h = and_left (a && b) c (and_left (a && b && c) d h)
 
 -- an answer that counts has the call's own tag
 pub counts_own : (phase : Phase) (tag : Tag) (replica : DcId) → counts phase tag replica ≡ true → phase.tag ≡ tag
-counts_own phase tag replica h = same_tag phase.tag tag (first_of_four (is_same_tag phase.tag tag) (has phase.asked replica.0) (not (has phase.good replica.0)) (not (has phase.bad replica.0)) h)
+counts_own phase tag replica h =
+    same_tag phase.tag tag (and_left (is_same_tag phase.tag tag) (has phase.asked replica.0) (first_two (is_same_tag phase.tag tag) (has phase.asked replica.0) (not (has phase.good replica.0)) (not (has phase.bad replica.0)) h))
+
+-- and is of a replica that was asked
+pub counts_asked : (phase : Phase) (tag : Tag) (replica : DcId) → counts phase tag replica ≡ true → has phase.asked replica.0 ≡ true
+counts_asked phase tag replica h =
+    and_right (is_same_tag phase.tag tag) (has phase.asked replica.0) (first_two (is_same_tag phase.tag tag) (has phase.asked replica.0) (not (has phase.good replica.0)) (not (has phase.bad replica.0)) h)
 
 counts_tag : (takes : Bool) (phase : Phase) (tag : Tag) (replica : DcId) → (takes && counts phase tag replica) ≡ true → phase.tag ≡ tag
-counts_tag takes phase tag replica h =
-    same_tag phase.tag tag (first_of_four (is_same_tag phase.tag tag) (has phase.asked replica.0) (not (has phase.good replica.0)) (not (has phase.bad replica.0)) (and_right takes (counts phase tag replica) h))
+counts_tag takes phase tag replica h = counts_own phase tag replica (and_right takes (counts phase tag replica) h)
 
 -- only a message with the call's own tag counts
 pub counted_is_own : (call : CallState) (message : Message) → is_counted call message ≡ true → call.progress.phase.tag ≡ tag_of message

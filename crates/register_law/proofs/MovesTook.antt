@@ -1,14 +1,15 @@
 -- What counts once one more replica does, what a step of a move leaves of it, and what it asks.
-use Rattle.std.proofs.Common.{◌≡◌, ◌+◌, ◌≤◌, List, [], ◌∷◌, refl, sym, subst, arith, inl, inr, ℕ, ◌*◌, ◌<◌, Bool, true, false, ◌∙◌, None, IsSome, Contains, ◌&&◌, not, map, length, nat_le, if◌then◌else◌, Option, Some, All}
-use Rattle.register_law.proofs.Words.{has, no_centre, replicas_of, DcSet, Step, tag_of, Actor, Message, Post, Tag, next_tag, opened, posts_to, Moving, first_write_set, strong_rule, Store, IsMoveRequest, WasSent, Within, IsSamePoint, request_key, centres_below, centres_of, meet, IsQuorumPolicy, Meets, common_count, faults_of, members_of, DcId, Policy, Direct, Relay, Quorum, IsAtMost, stamp_cmp, Stamp, better, counts, has_quorum, is_same_tag, with_good, Found, Phase, quorum_frozen, FreezesCounted, FrozenCounted, WasAnswered, YesCounted, HasMost, MeetsAll, both, count_of, list_all, range_with_len, is_gt, common_steps, MoveStage as Stage, has-meet, has-insert_same, has-below, has-no_centre, among, IsAtMost-trans}
+use Rattle.std.proofs.Common.{◌≡◌, ◌+◌, ◌≤◌, List, [], ◌∷◌, refl, sym, subst, arith, inl, inr, ℕ, ◌*◌, ◌<◌, Bool, true, false, ◌∙◌, None, IsSome, Contains, ◌&&◌, map, length, nat_le, if◌then◌else◌, Option, Some}
+use Rattle.std.proofs.lemmas.Option.{same_Some}
+use Rattle.register_law.proofs.Words.{has, no_centre, replicas_of, DcSet, Step, tag_of, Actor, Message, Post, Tag, next_tag, opened, posts_to, Moving, first_write_set, strong_rule, Store, IsMoveRequest, WasSent, Within, IsSamePoint, request_key, centres_below, centres_of, meet, IsQuorumPolicy, common_count, faults_of, members_of, DcId, Policy, Direct, Relay, Quorum, IsAtMost, stamp_cmp, Stamp, better, counts, has_quorum, with_good, Found, Phase, quorum_frozen, FreezesCounted, FrozenCounted, WasAnswered, YesCounted, HasMost, MeetsAll, both, count_of, list_all, range_with_len, is_gt, common_steps, MoveStage as Stage, has-meet, has-insert_same, has-below, among, IsAtMost-trans, and_left, and_right, has-insert_cases, has-insert_stays, IsAtMost-refl, none_in}
 use Rattle.wire_msg.specs.declared.actor.Actor.TheVariants as to
 use Rattle.wire_msg.specs.declared.message.Message.TheVariants as m
 use Rattle.span_base.specs.declared.policy.Policy.TheVariants.{Strong}
 use Rattle.migration.specs.Strong.{is_stopped}
 use Rattle.register_law.proofs.Basics.{Each, each_one, each_to}
-use Rattle.register_law.proofs.MovesStep.{MoveTook, unheard, was_current, froze_first, froze_one, froze_all, seeded_next, seeded_all, was_refused, was_stale, arrived}
-use Rattle.register_law.proofs.Quorums.{count_mono, and_left, and_right, inserted, stays_in}
-use Rattle.register_law.proofs.Growth.{at_most_itself}
+use Rattle.register_law.proofs.MovesStep.{MoveTook, unheard, was_current, froze_first, froze_one, froze_all, seeded_next, seeded_all, was_refused, was_stale, arrived, counts_asked}
+use Rattle.register_law.proofs.Quorums.{count_mono, members_meet}
+use Rattle.std.proofs.lemmas.Bool.{and_from}
 
 -- the replicas in both of two sets
 pub met : (s t : DcSet) → common_count s t ≤ count_of (both (has s) (has t))
@@ -42,25 +43,18 @@ quorum_is f phase h = at_least (count_of (has phase.asked)) (count_of (has phase
 pub most_pass : (f : ℕ) (phase : Phase) (test : ℕ → Bool) → has_quorum f phase ≡ true → Within (has phase.good) (has phase.asked) → Within (has phase.good) test → HasMost f phase.asked test
 most_pass f phase test h within passes =
     let enough = quorum_is f phase h in
-    let more = count_mono (has phase.good) (both (has phase.asked) test) (λ d k. both_are (has phase.asked d) (test d) (within d k) (passes d k)) (range_with_len 0 16) in
+    let more = count_mono (has phase.good) (both (has phase.asked) test) (λ d k. and_from (has phase.asked d) (test d) (within d k) (passes d k)) (range_with_len 0 16) in
     omega arith
-  where
-    both_are : (a b : Bool) → a ≡ true → b ≡ true → (a && b) ≡ true
-    both_are true b h k = k
-    both_are false b h k = h
 
 -- each two members' quorums share 2f + 1 replicas
 pub quorums_share : (policy : Policy) → IsQuorumPolicy policy → (a b : Quorum) → Contains (members_of policy) a → Contains (members_of policy) b
     → (2 * faults_of policy + 1 ≤ count_of (both (has a.read) (has b.write))) × (2 * faults_of policy + 1 ≤ count_of (both (has a.write) (has b.write)))
-quorums_share (Direct f replicas primary) h a b ca cb = absurd h
-quorums_share (Relay f replicas primary parent) h a b ca cb = absurd h
-quorums_share (Strong f replicas members) h a b ca cb =
-    let of_a = subst (λ (x : Quorum). All (λ y. Meets (2 * f + 1) x y) members) ca.2 (h.quorums_meet ca.0 a ca.1) in
-    let of_b = subst (λ (x : Quorum). Meets (2 * f + 1) a x) cb.2 (of_a cb.0 b cb.1) in
+quorums_share policy h a b ca cb =
+    let enough = members_meet policy a b h ca cb in
+    let enough_reads = enough.0 in
+    let enough_writes = enough.1 in
     let reads = met a.read b.write in
     let writes = met a.write b.write in
-    let enough_reads = of_b.0 in
-    let enough_writes = of_b.1 in
     (omega arith, omega arith)
 
 -- the first member
@@ -77,21 +71,10 @@ first_member (Direct f replicas primary) h = absurd h
 first_member (Relay f replicas primary parent) h = absurd h
 first_member (Strong f replicas members) h = first_in f replicas members h.centres.some
 
-second_of_four : (a b c d : Bool) → (a && b && c && d) ≡ true → b ≡ true
-second_of_four true true c d h = refl
-second_of_four true false c d h = absurd (cc)
-second_of_four false b c d h = absurd (cc)
-
-pub counts_asked : (phase : Phase) (tag : Tag) (replica : DcId) → counts phase tag replica ≡ true → has phase.asked replica.0 ≡ true
-counts_asked phase tag replica h = second_of_four (is_same_tag phase.tag tag) (has phase.asked replica.0) (not (has phase.good replica.0)) (not (has phase.bad replica.0)) h
-
-pub none_in : (d : ℕ) → has no_centre d ≡ true → ⊥
-none_in d h = let none = has-no_centre d in cc
-
 -- those that count stay within those asked
 pub within_good : (phase : Phase) (tag : Tag) (replica : DcId) → counts phase tag replica ≡ true → Within (has phase.good) (has phase.asked) → Within (has (with_good phase replica).good) (has phase.asked)
 within_good phase tag replica c within d h =
-    elim (inserted phase.good replica.0 d h) as (λ _. has phase.asked d ≡ true) [
+    elim (has-insert_cases phase.good replica.0 d h) as (λ _. has phase.asked d ≡ true) [
       | inl is ↦ subst (λ (n : ℕ). has phase.asked n ≡ true) (sym is) (counts_asked phase tag replica c)
       | inr was ↦ within d was
     ]
@@ -99,7 +82,7 @@ within_good phase tag replica c within d h =
 -- one more said Yes
 pub yes_more : (s : Store) (phase : Phase) (replica : DcId) → YesCounted s phase → WasSent s (m.Yes phase.tag replica) → YesCounted s (with_good phase replica)
 yes_more s phase replica said sent d h =
-    elim (inserted phase.good replica.0 d h) as (λ _. WasSent s (m.Yes phase.tag (record { 0 = d }))) [
+    elim (has-insert_cases phase.good replica.0 d h) as (λ _. WasSent s (m.Yes phase.tag (record { 0 = d }))) [
       | inl is ↦ subst (λ (n : ℕ). WasSent s (m.Yes phase.tag (record { 0 = n }))) (sym is) sent
       | inr was ↦ said d was
     ]
@@ -111,42 +94,39 @@ AnsweredBelow s tag bound d = (version : Stamp) × (mark : Stamp) × (value : Li
 freezes_grow : (s : Store) (phase : Phase) (replica : DcId) (version mark : Stamp) (value : List ℕ) (b : Found) → WasSent s (m.Have phase.tag replica version mark value) → IsAtMost version b.stamp
     → ((d : ℕ) → has phase.good d ≡ true → AnsweredBelow s phase.tag b.stamp d) → WasAnswered s (with_good phase replica) b → FreezesCounted s (with_good phase replica) b
 freezes_grow s phase replica version mark value b sent below old found = record {
-  each = λ d h. elim (inserted phase.good replica.0 d h) as (λ _. AnsweredBelow s phase.tag b.stamp d) [
+  each = λ d h. elim (has-insert_cases phase.good replica.0 d h) as (λ _. AnsweredBelow s phase.tag b.stamp d) [
     | inl is ↦ subst (AnsweredBelow s phase.tag b.stamp) (sym is) (version, mark, value, sent, below)
     | inr was ↦ old d was
   ];
   found = found;
 }
 
-gt_below : (a b : Stamp) → is_gt (stamp_cmp a b) ≡ true → IsAtMost b a
+pub gt_below : (a b : Stamp) → is_gt (stamp_cmp a b) ≡ true → IsAtMost b a
 gt_below a b h = grind (arith, common_steps)
 
-not_gt : (a b : Stamp) → is_gt (stamp_cmp a b) ≡ false → IsAtMost a b
+pub not_gt : (a b : Stamp) → is_gt (stamp_cmp a b) ≡ false → IsAtMost a b
 not_gt a b h = grind (arith, common_steps)
-
-some_same : (a b : Found) → Some a ≡ Some b → a ≡ b
-some_same a b e = cc
 
 -- one more version that froze
 pub froze_more : (s : Store) (phase : Phase) (best : Option Found) (replica : DcId) (version mark : Stamp) (value : List ℕ) (b : Found) → FrozenCounted s phase best → has phase.asked replica.0 ≡ true → WasSent s (m.Have phase.tag replica version mark value)
     → better best version value ≡ Some b → FreezesCounted s (with_good phase replica) b
 froze_more s phase None replica version mark value b none asked sent e =
-    subst (FreezesCounted s (with_good phase replica)) (some_same (record { stamp = version; value = value }) b e)
-    (freezes_grow s phase replica version mark value (record { stamp = version; value = value }) sent (at_most_itself version)
+    subst (FreezesCounted s (with_good phase replica)) (same_Some (record { stamp = version; value = value }) b e)
+    (freezes_grow s phase replica version mark value (record { stamp = version; value = value }) sent (IsAtMost-refl version)
     (λ d h. absurd (let no = none d in cc))
     (record { d = replica.0; mark = mark; counted = has-insert_same phase.good replica.0 (has-below phase.asked replica.0 asked); sent = sent }))
 froze_more s phase (Some was) replica version mark value b some asked sent e = by (is_gt (stamp_cmp version was.stamp)) refl e
   where
     by : (t : Bool) → is_gt (stamp_cmp version was.stamp) ≡ t → (if t then Some (record { stamp = version; value = value }) else Some was) ≡ Some b → FreezesCounted s (with_good phase replica) b
     by true is k =
-        subst (FreezesCounted s (with_good phase replica)) (some_same (record { stamp = version; value = value }) b k)
-        (freezes_grow s phase replica version mark value (record { stamp = version; value = value }) sent (at_most_itself version)
+        subst (FreezesCounted s (with_good phase replica)) (same_Some (record { stamp = version; value = value }) b k)
+        (freezes_grow s phase replica version mark value (record { stamp = version; value = value }) sent (IsAtMost-refl version)
         (λ d h. let o = some.each d h in (o.0, o.1, o.2, o.3, IsAtMost-trans o.0 was.stamp version o.4 (gt_below version was.stamp is)))
         (record { d = replica.0; mark = mark; counted = has-insert_same phase.good replica.0 (has-below phase.asked replica.0 asked); sent = sent }))
     by false is k =
-        subst (FreezesCounted s (with_good phase replica)) (some_same was b k)
+        subst (FreezesCounted s (with_good phase replica)) (same_Some was b k)
         (freezes_grow s phase replica version mark value was sent (not_gt version was.stamp is) some.each
-        (record { d = some.found.d; mark = some.found.mark; counted = stays_in phase.good replica.0 some.found.d (has-below phase.asked replica.0 asked) some.found.counted; sent = some.found.sent }))
+        (record { d = some.found.d; mark = some.found.mark; counted = has-insert_stays phase.good replica.0 some.found.d (has-below phase.asked replica.0 asked) some.found.counted; sent = some.found.sent }))
 
 pub better_some : (best : Option Found) (version : Stamp) (value : List ℕ) → (b : Found) × (better best version value ≡ Some b)
 better_some None version value = (record { stamp = version; value = value }, refl)

@@ -1,7 +1,6 @@
 -- What each thing that a strong call does next rests on.
-use Rattle.std.proofs.Common.{◌≡◌, ℕ, ◌<◌, ◌≤◌, Bool, true, false, List, refl, subst, arith, if◌then◌else◌, nat_lt, ◌==◌, Option, Some, None}
-use Rattle.register_law.proofs.Words.{member_of, Quorum, stamp_cmp, stamp_zero, Stamp, View, has_quorum, is_lost, Found, answer_or_repair, best_stamp, decided, enter, go_over, leg_under, next_of, next_ticket, verdict_at, Next, Enter, Fenced, Look, Moved, NumbersOut, Outside, Repair, Stored, Unsure, Value, Wait, Leg, Progress, Stage, Ended, First, Looking, Second, CallState, ToRead, ToWrite, is_ge, common_steps, StrongWork as Work, StoreNext as Store}
-use Rattle.register_law.proofs.Basics.{less_is}
+use Rattle.std.proofs.Common.{◌≡◌, ℕ, ◌<◌, ◌≤◌, Bool, true, false, List, refl, subst, if◌then◌else◌, nat_lt, ◌==◌, Option, Some, None, ltb-true, ltb-false}
+use Rattle.register_law.proofs.Words.{member_of, Quorum, stamp_cmp, stamp_zero, Stamp, View, has_quorum, is_lost, Found, answer_or_repair, best_stamp, decided, enter, go_over, leg_under, next_of, next_ticket, verdict_at, Next, Enter, Fenced, Look, Moved, NumbersOut, Outside, Repair, Stored, Unsure, Value, Wait, Leg, Progress, Stage, Ended, First, Looking, Second, CallState, ToRead, ToWrite, is_ge, StrongWork as Work, StoreNext as Store}
 
 -- a write stores only from its first phase, with a quorum of grants
 pub record StoresWhen (stage : Stage) (work : Work) (p : Progress) : Type 0 where
@@ -116,12 +115,9 @@ of_decided : (P : Next → Type 0) (p : Progress) (good lost : Next) → (has_qu
 of_decided P p good lost f g h =
     chosen P (has_quorum p.leg.f p.phase) good (if is_lost p.leg.f p.phase then lost else Wait) f (λ a. chosen P (is_lost p.leg.f p.phase) lost Wait g (h a))
 
-pub is_many : (a b : ℕ) → nat_lt a b ≡ false → b ≤ a
-is_many a b h = grind (arith, common_steps)
-
 of_go_over : (stage : Stage) (work : Work) (best : Option Stamp) (p : Progress) (view : View) (seen : ℕ) → GoesOver stage work p view → RestsOn stage work best p view seen (go_over p)
 of_go_over stage work best p view seen o =
-    chosen (RestsOn stage work best p view seen) (nat_lt p.lookups 4) Look Moved (λ a. record { over = o; few = less_is p.lookups 4 a }) (λ a. record { over = o; many = is_many p.lookups 4 a })
+    chosen (RestsOn stage work best p view seen) (nat_lt p.lookups 4) Look Moved (λ a. record { over = o; few = ltb-true p.lookups 4 a }) (λ a. record { over = o; many = ltb-false p.lookups 4 a })
 
 of_answer : (best : Option Stamp) (p : Progress) (view : View) (seen : ℕ) → has_quorum p.leg.f p.phase ≡ true → RestsOn First ToRead best p view seen (answer_or_repair p.top_mark best)
 of_answer None p view seen q = nothing_found refl refl q refl
@@ -156,8 +152,8 @@ rests Second (ToWrite value) best p view seen =
     (λ a. record { value = value; stage_is = refl; work_is = refl; quorum = a }) (λ a. record { value = value; stage_is = refl; work_is = refl; lost = a }) (λ a b. undecided a b)
 rests Looking work best p view seen =
     chosen (RestsOn Looking work best p view seen) (nat_lt p.leg.epoch view.epoch) (enter (member_of view.policy p.at.0) work p view seen) (go_over p)
-    (λ a. of_enter work best p view seen (member_of view.policy p.at.0) (less_is p.leg.epoch view.epoch a) refl)
-    (λ a. of_go_over Looking work best p view seen (over_look refl (is_many p.leg.epoch view.epoch a)))
+    (λ a. of_enter work best p view seen (member_of view.policy p.at.0) (ltb-true p.leg.epoch view.epoch a) refl)
+    (λ a. of_go_over Looking work best p view seen (over_look refl (ltb-false p.leg.epoch view.epoch a)))
 rests Ended work best p view seen = over refl
 
 -- what a call does next, by what it is

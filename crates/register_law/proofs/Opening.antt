@@ -1,13 +1,14 @@
 -- Of the state that a header opens: nothing is sent, live or kept, and stamp zero is settled.
-use Rattle.std.proofs.Common.{◌≡◌, ℕ, ◌<◌, Bool, true, false, List, [], ◌∷◌, refl, sym, ap, subst, arith, zero, suc, map, replicate, length, slice_get, slice_index, slice_index_or, ◌==◌, if◌then◌else◌, Option, None, Contains, option_and_then}
-use Rattle.register_law.proofs.Words.{has, IsQuorumPolicy, members_of, KeyId, SetId, Policy, Direct, Relay, Quorum, stamp_zero, Stamp, Message, is_strong, no_policy, KeySet, item_at, item_for, Handle, IsStrongKey, IsHeader, Proxy, Replica, Store, kept_of, key_set, no_proxy, no_replica, opening, opening_proxy, opening_replica, policy_of, proxy_at, Header, LiveCall, Ghost, first_ghost, IsKept, IsSettled, WasSent, both, is_at_most, version_before, IsLiveAt, range_with_len, common_steps}
+use Rattle.std.proofs.Common.{◌≡◌, ℕ, Bool, true, false, List, [], ◌∷◌, refl, sym, ap, subst, arith, zero, suc, map, replicate, length, slice_get, slice_index, slice_index_or, ◌==◌, if◌then◌else◌, Option, None, option_and_then}
+use Rattle.std.proofs.lemmas.Bool.{and_from}
+use Rattle.register_law.proofs.Words.{has, IsQuorumPolicy, KeyId, SetId, Policy, Direct, Relay, stamp_zero, Stamp, Message, is_strong, no_policy, KeySet, item_at, item_for, Handle, IsStrongKey, IsHeader, Proxy, Replica, Store, kept_of, key_set, no_proxy, no_replica, opening, opening_proxy, opening_replica, policy_of, proxy_at, Header, LiveCall, Ghost, first_ghost, IsKept, IsSettled, WasSent, both, is_at_most, version_before, IsLiveAt, range_with_len, common_steps}
 use Rattle.span_base.specs.declared.policy.Policy.TheVariants.{Strong}
 use Rattle.span_base.specs.Policy.{IsSoundPolicy}
-use Rattle.wire_msg.specs.declared.message.Message.TheVariants as m
 use Rattle.slot_pool.specs.Slots.{new_slot}
 use Rattle.replica_core.specs.Keeping as keeping
 use Rattle.replica_core.specs.Rule as replica
-use Rattle.register_law.proofs.Quorums.{count_mono, and_both}
+use Rattle.register_law.proofs.Quorums.{count_mono}
+use Rattle.register_law.proofs.MovesTook.{first_member}
 
 -- nothing was sent
 pub nothing_sent : (header : Header) (message : Message) → WasSent (opening header) message → ⊥
@@ -71,25 +72,16 @@ first_quorum header key h k =
     strong_sound (first_policy header key) k.strong
     (h.policies (slice_index_or header.keys key.0 (record { 0 = 0 })).0 no_policy (h.key_sets key.0 (record { 0 = 0 }) k.exists))
 
-first_member : (members : List Quorum) → 0 < length (map (λ (q : Quorum). q.dc.0) members) → (q : Quorum) × Contains members q
-first_member [] h = absurd (omega (arith, h))
-first_member (q ∷ qs) h = (q, (0, omega arith, refl))
-
-some_member : (policy : Policy) → IsQuorumPolicy policy → (q : Quorum) × Contains (members_of policy) q
-some_member (Direct f replicas primary) h = absurd h
-some_member (Relay f replicas primary parent) h = absurd h
-some_member (Strong f replicas members) h = first_member members h.centres.some
-
 zero_least : (t : Stamp) → is_at_most stamp_zero t ≡ true
 zero_least t = grind (arith, common_steps)
 
 -- stamp zero is settled wherever there is a policy
 pub zero_settled : (key : KeyId) (s : Store) (g : Ghost) (epoch : ℕ) → IsQuorumPolicy (policy_of s key epoch) → IsSettled key s g epoch stamp_zero
 zero_settled key s g epoch h =
-    let m = some_member (policy_of s key epoch) h in
+    let m = first_member (policy_of s key epoch) h in
     let w : ℕ → Bool = has m.0.write in
-    let all = count_mono w (both w (λ d. is_at_most stamp_zero (version_before key s g d epoch))) (λ d k. and_both (w d) (is_at_most stamp_zero (version_before key s g d epoch)) k (zero_least (version_before key s g d epoch))) (range_with_len 0 16) in
-    record { member = m.0; is_member = m.1; settled = omega arith }
+    let all = count_mono w (both w (λ d. is_at_most stamp_zero (version_before key s g d epoch))) (λ d k. and_from (w d) (is_at_most stamp_zero (version_before key s g d epoch)) k (zero_least (version_before key s g d epoch))) (range_with_len 0 16) in
+    record { member = m.0; is_member = m.1.there; settled = omega arith }
 
 pub quorum_at_first : (header : Header) (key : KeyId) → IsHeader header → IsStrongKey header key.0 → IsQuorumPolicy (policy_of (opening header) key 1)
 quorum_at_first header key h k = subst IsQuorumPolicy (sym (policy_is header key)) (first_quorum header key h k)

@@ -1,51 +1,31 @@
 -- The invariant holds in the state that a header opens.
-use Rattle.std.proofs.Common.{◌≡◌, ℕ, ◌<◌, refl, sym, ap, ◌∙◌, subst, inl, ◌+◌, List, [], ◌∷◌, ◌++◌, arith, zero, suc, map, length, replicate, slice_index, slice_index_or, Contains}
-use Rattle.register_law.proofs.Words.{KeyId, IsStrongKey, key_set, opening, Header, KeysAgree, IsQuorumPolicy, DcId, SetId, Policy, IsAtMost, stamp_zero, View, Kept, current_of, KeySet, Mark, IsHeader, Replica, no_proxy, no_replica, no_view, opening_proxy, opening_replica, opening_view, policy_of, proxy_at, replica_at, view_at, OpeningsAreBacked, first_ghost, Inv, IsSeat, ReplicasAreBacked, IsKept, IsKnown, range_with_len, NotedLeg as Leg}
+use Rattle.std.proofs.Common.{◌≡◌, ℕ, ◌<◌, refl, sym, ap, ◌∙◌, subst, inl, List, [], ◌∷◌, ◌++◌, arith, zero, suc, map, length, replicate, slice_index, slice_index_or, Contains, inr}
+use Rattle.std.proofs.lemmas.List.{length-replicate}
+use Rattle.register_law.proofs.Words.{KeyId, IsStrongKey, key_set, opening, Header, KeysAgree, IsQuorumPolicy, DcId, IsAtMost, stamp_zero, View, Kept, current_of, KeySet, Mark, IsHeader, Replica, no_proxy, no_replica, no_view, opening_proxy, opening_replica, opening_view, policy_of, proxy_at, replica_at, view_at, OpeningsAreBacked, first_ghost, Inv, IsSeat, ReplicasAreBacked, IsKept, IsKnown, range_with_len, NotedLeg as Leg, IsAtMost-refl, length-map, length-range_with_len, get_or-map-range_with_len, among, none_among}
 use Rattle.wire_msg.specs.declared.message.Message.TheVariants as m
 use Rattle.replica_core.specs.Keeping as keeping
 use Rattle.run_marks.specs.declared.mark.Mark.TheVariants as mk
 use Rattle.world_core.specs.declared.live.LiveCall.TheVariants as live_call
 use Rattle.register_law.proofs.Opening.{nothing_sent, none_live, nothing_kept, policy_is, quorum_at_first, zero_kept}
-use Rattle.register_law.proofs.Basics.{mapped_length}
-use Rattle.register_law.proofs.Growth.{at_most_itself}
-
-pub replicated : (n x : ℕ) → length (replicate n x) ≡ n
-replicated zero x = refl
-replicated (suc n) x = ap suc (replicated n x)
 
 pub keys_agree_first : (header : Header) (key : KeyId) → IsStrongKey header key.0 → KeysAgree key (opening header)
 unfolding opening
 keys_agree_first header key k = record {
-  exists = subst (λ n. key.0 < n) (sym (replicated (length (map key_set header.keys)) 1 ∙ mapped_length key_set header.keys)) k.exists;
+  exists = subst (λ n. key.0 < n) (sym (length-replicate (length (map key_set header.keys)) 1 ∙ length-map header.keys key_set)) k.exists;
   here_asked = λ tag at epoch policy newest newest_policy sent. absurd (nothing_sent header (m.Here tag at epoch policy newest newest_policy) sent);
   switched_asked = λ tag at done epoch sent. absurd (nothing_sent header (m.Switched tag at done epoch) sent);
 }
 
 -- ---- the invariant holds of the state that a header opens
 
-length_is : {X : Type 0} → (n : ℕ) (x : X) → length (replicate n x) ≡ n
-length_is {X} zero x = refl
-length_is {X} (suc n) x = let h = length_is n x in omega arith
-
-in_replicas : (keys n start i : ℕ) → i < n → slice_index_or (map (opening_replica keys) (range_with_len start n)) i no_replica ≡ opening_replica keys (start + i)
-in_replicas keys zero start i lt = absurd (omega (arith, lt))
-in_replicas keys (suc n) start zero lt = ap (opening_replica keys) (omega arith)
-in_replicas keys (suc n) start (suc i) lt =
-    let there : slice_index_or (map (opening_replica keys) (range_with_len (start + 1) n)) i no_replica ≡ opening_replica keys (start + 1 + i) = in_replicas keys n (start + 1) i (omega arith) in
-    there ∙ ap (opening_replica keys) (omega arith)
-
-range_length : (start n : ℕ) → length (range_with_len start n) ≡ n
-range_length start zero = refl
-range_length start (suc n) = let h = range_length (start + 1) n in omega arith
-
 -- each replica has its number, and keeps each key
 pub opening_seats : (header : Header) (key : KeyId) → key.0 < length header.keys → (d : ℕ) → d < length (opening header).replicas → IsSeat key d (replica_at (opening header) d).state
 unfolding opening
 opening_seats header key k d lt =
-    let all : length (map (opening_replica (length header.keys)) (range_with_len 0 header.replicas)) ≡ length (range_with_len 0 header.replicas) = mapped_length (opening_replica (length header.keys)) (range_with_len 0 header.replicas) in
-    let many = range_length 0 header.replicas in
-    let is : slice_index_or (map (opening_replica (length header.keys)) (range_with_len 0 header.replicas)) d no_replica ≡ opening_replica (length header.keys) d = in_replicas (length header.keys) header.replicas 0 d (omega arith) ∙ ap (opening_replica (length header.keys)) (omega arith) in
-    let long = length_is (length header.keys) keeping.opening in
+    let all : length (map (opening_replica (length header.keys)) (range_with_len 0 header.replicas)) ≡ length (range_with_len 0 header.replicas) = length-map (range_with_len 0 header.replicas) (opening_replica (length header.keys)) in
+    let many = length-range_with_len 0 header.replicas in
+    let is : slice_index_or (map (opening_replica (length header.keys)) (range_with_len 0 header.replicas)) d no_replica ≡ opening_replica (length header.keys) d = get_or-map-range_with_len (opening_replica (length header.keys)) 0 header.replicas d d no_replica (omega arith) (omega arith) in
+    let long = length-replicate (length header.keys) keeping.opening in
     subst (λ (x : Replica). IsSeat key d x.state) (sym is) (record { number = refl; holds = omega arith })
 
 opening_replicas : (header : Header) (key : KeyId) → IsHeader header → IsStrongKey header key.0 → ReplicasAreBacked key (opening header) first_ghost
@@ -54,15 +34,8 @@ opening_replicas header key h k = record {
   version_known = λ d. subst (λ (x : Kept). IsKnown key (opening header) x.version x.value) (sym (nothing_kept header d key)) (inl (refl, refl));
   mark_kept = λ d. subst (λ (x : Kept). IsKept key (opening header) first_ghost x.mark) (sym (nothing_kept header d key)) (zero_kept header key h k);
   fence_asked = λ d. inl (ap (λ (x : Kept). x.fence) (nothing_kept header d key));
-  fixed_below = λ d e _. subst (λ (x : Kept). IsAtMost stamp_zero x.version) (sym (nothing_kept header d key)) (at_most_itself stamp_zero);
+  fixed_below = λ d e _. subst (λ (x : Kept). IsAtMost stamp_zero x.version) (sym (nothing_kept header d key)) (IsAtMost-refl stamp_zero);
 }
-
-in_views : (sets : List Policy) (keys : List SetId) (n start i : ℕ) → i < n → slice_index_or (map (opening_view sets keys) (range_with_len start n)) i no_view ≡ opening_view sets keys (start + i)
-in_views sets keys zero start i lt = absurd (omega (arith, lt))
-in_views sets keys (suc n) start zero lt = ap (opening_view sets keys) (omega arith)
-in_views sets keys (suc n) start (suc i) lt =
-    let there : slice_index_or (map (opening_view sets keys) (range_with_len (start + 1) n)) i no_view ≡ opening_view sets keys (start + 1 + i) = in_views sets keys n (start + 1) i (omega arith) in
-    there ∙ ap (opening_view sets keys) (omega arith)
 
 view_is : (header : Header) (key : KeyId) (p : ℕ) → key.0 < length header.keys → p < length header.proxies → view_at (proxy_at (opening header) p).views key ≡ opening_view header.sets header.keys key.0
 unfolding opening
@@ -70,31 +43,24 @@ view_is header key p lk lp = at header.proxies p lp
   where
     at : (xs : List DcId) (i : ℕ) → i < length xs → view_at (slice_index_or (map (opening_proxy header) xs) i no_proxy).views key ≡ opening_view header.sets header.keys key.0
     at [] i lt = absurd (omega (arith, lt))
-    at (x ∷ xs) zero lt = in_views header.sets header.keys (length header.keys) 0 key.0 lk ∙ ap (opening_view header.sets header.keys) (omega arith)
+    at (x ∷ xs) zero lt = get_or-map-range_with_len (opening_view header.sets header.keys) 0 (length header.keys) key.0 key.0 no_view lk (omega arith)
     at (x ∷ xs) (suc i) lt = at xs i (omega arith)
 
 -- each view is of its key
 pub opening_view_keys : (header : Header) (p : ℕ) (key : KeyId) → p < length (opening header).proxies → key.0 < length (opening header).directory.sets → (view_at (proxy_at (opening header) p).views key).key ≡ key
 unfolding opening
 opening_view_keys header p key lp lk =
-    let proxies = mapped_length (opening_proxy header) header.proxies in
-    let keys = mapped_length key_set header.keys in
-    let sets = mapped_length (λ (k : KeySet). k.set.0) (map key_set header.keys) in
+    let proxies = length-map header.proxies (opening_proxy header) in
+    let keys = length-map header.keys key_set in
+    let sets = length-map (map key_set header.keys) (λ (k : KeySet). k.set.0) in
     ap (λ (v : View). v.key) (view_is header key p (omega arith) (omega arith))
 
-abbrev ones : List ℕ
-ones = 1 ∷ []
-
-only_one : (e : ℕ) → Contains ones e → e ≡ 1
-only_one e h = at h.0 h.1 h.2
-  where
-    at : (n : ℕ) → n < length ones → slice_index_or ones n e ≡ e → e ≡ 1
-    at zero lt is = sym is
-    at (suc n) lt is = absurd (omega (arith, lt))
+only_one : (e : ℕ) → Contains (1 ∷ []) e → e ≡ 1
+only_one e h = elim (among 1 [] e h) as (λ _. e ≡ 1) [ inl is ↦ is | inr none ↦ absurd (none_among e none) ]
 
 pub current_is : (header : Header) (key : KeyId) → key.0 < length header.keys → current_of (opening header).directory key ≡ 1
 unfolding opening
-current_is header key lt = at (length (map key_set header.keys)) key.0 (let h = mapped_length key_set header.keys in omega arith)
+current_is header key lt = at (length (map key_set header.keys)) key.0 (let h = length-map header.keys key_set in omega arith)
   where
     at : (n i : ℕ) → i < n → slice_index (replicate n 1) i ≡ 1
     at zero i lt = absurd (omega (arith, lt))
@@ -108,7 +74,7 @@ opening_openings header key h k = record {
   newest = sym (current_is header key k.exists);
   published = λ e c. let is = only_one e c in (omega arith, omega arith);
   view_opened = λ p lt.
-      let here : p < length header.proxies = let l = mapped_length (opening_proxy header) header.proxies in omega arith in
+      let here : p < length header.proxies = let l = length-map header.proxies (opening_proxy header) in omega arith in
       subst (λ (v : View). Contains (1 ∷ []) v.epoch × (v.policy ≡ policy_of (opening header) key v.epoch)) (sym (view_is header key p k.exists here)) ((0, omega arith, refl), sym (policy_is header key));
   policies_quorum = λ e a b. let is : e ≡ 1 = omega arith in subst (λ n. IsQuorumPolicy (policy_of (opening header) key n)) (sym is) (quorum_at_first header key h k);
 }

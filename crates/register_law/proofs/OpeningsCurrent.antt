@@ -1,7 +1,8 @@
 -- The current epoch of a key changes only by a Switch of the key, and each published epoch has a quorum policy for a strong key.
-use Rattle.std.proofs.Common.{◌≡◌, ◌⊎◌, inl, inr, ℕ, ◌<◌, ◌≤◌, Bool, true, false, List, [], ◌∷◌, refl, sym, ap, ◌∙◌, subst, arith, zero, suc, ◌==◌, ◌&&◌, nat_lt, nat_le, length, if◌then◌else◌, slice_set, slice_index, Contains, ◌+◌, ◌-◌, ◌++◌, slice_index_or, unwrap_or, is_some, Option, Some, None, find}
+use Rattle.std.proofs.Common.{◌≡◌, ◌⊎◌, inl, inr, ℕ, ◌<◌, ◌≤◌, Bool, true, false, List, [], ◌∷◌, refl, sym, ap, ◌∙◌, subst, arith, zero, suc, ◌==◌, ◌&&◌, nat_lt, nat_le, length, if◌then◌else◌, slice_set, slice_index, Contains, ◌+◌, ◌-◌, ◌++◌, slice_index_or, unwrap_or, is_some, Option, Some, None, find, eqb-true, ltb-true, leb-true, leb-false}
+use Rattle.std.proofs.lemmas.List.{length_push}
 use Rattle.std.specs.Option.{option_map_or}
-use Rattle.register_law.proofs.Words.{KeyId, Message, Tag, State, current_of, latest, can_switch, with_current, Store, Happening, Happened, directory_took, published, WasSent, IsQuorumPolicy, Policy, Direct, Relay, is_strong, no_policy, set_of, table_in, after_publish, table_after, table_fault, PublishFault, SetPolicy, policy_of, is_strong_key, common_steps, length-set, range_with_len, get_or-map-range_with_len, get_or-range_with_len, length-range_with_len, among}
+use Rattle.register_law.proofs.Words.{KeyId, Message, Tag, State, current_of, latest, can_switch, with_current, Store, Happening, Happened, directory_took, published, WasSent, IsQuorumPolicy, Policy, Direct, Relay, is_strong, no_policy, set_of, table_in, after_publish, table_after, table_fault, PublishFault, SetPolicy, policy_of, is_strong_key, length-set, range_with_len, get_or-map-range_with_len, get_or-range_with_len, length-range_with_len, among, same_key, and_left, and_right, get_or-set_same}
 use Rattle.wire_msg.specs.declared.actor.Actor.TheVariants as to
 use Rattle.wire_msg.specs.declared.message.Message.TheVariants as m
 use Rattle.epoch_directory.specs.Step.{after_switch, step}
@@ -11,23 +12,17 @@ use Rattle.wire_msg.proofs.SoundTest.{decide_sound}
 use Rattle.epoch_directory.specs.declared.table.PublishFault.TheVariants.{NotQuorum}
 use Rattle.epoch_directory.specs.State.{policy_in, set_count, is_strong_set}
 use Rattle.epoch_directory.specs.Tables.{listed, policy_after, is_quorum_policy, fault_of_listed, fault_at}
-use Rattle.register_law.proofs.Basics.{equal_is, same_key, less_is, one_more, is_made}
+use Rattle.register_law.proofs.Basics.{is_made}
 use Rattle.register_law.proofs.Growth.{policy_stays}
+use Rattle.std.proofs.Math.Seq.{get_or-append_seam}
+use Rattle.register_law.proofs.Kept.{set_cases}
 
 -- what stands at a place after a change
 number_cases : (xs : List ℕ) (i j y : ℕ) → (slice_index (slice_set xs i y) j ≡ slice_index xs j) ⊎ ((j ≡ i) × (slice_index (slice_set xs i y) j ≡ y))
-number_cases (x ∷ xs) zero zero y = inr (refl, refl)
-number_cases (x ∷ xs) (suc i) (suc j) y =
-    elim (number_cases xs i j y) as (λ _. (slice_index (slice_set xs i y) j ≡ slice_index xs j) ⊎ ((suc j ≡ suc i) × (slice_index (slice_set xs i y) j ≡ y))) [
-      | inl same ↦ inl same
-      | inr new ↦ inr (ap suc new.0, new.1)
-    ]
-number_cases xs i j y = inl refl
+number_cases xs i j y = set_cases xs i j y 0
 
 number_there : (xs : List ℕ) (i y : ℕ) → i < length xs → slice_index (slice_set xs i y) i ≡ y
-number_there [] i y lt = absurd (omega (arith, lt))
-number_there (x ∷ xs) zero y lt = refl
-number_there (x ∷ xs) (suc i) y lt = number_there xs i y (omega arith)
+number_there xs i y lt = get_or-set_same xs i y 0 lt
 
 -- the test of a Switch
 pub record CanSwitch (state : State) (key : KeyId) (closing opening : ℕ) : Type 0 where
@@ -35,29 +30,14 @@ pub record CanSwitch (state : State) (key : KeyId) (closing opening : ℕ) : Typ
   pub later : closing < opening
   pub published : opening ≤ latest state
 
-pub at_most_is : (a b : ℕ) → nat_le a b ≡ true → a ≤ b
-at_most_is a b h = grind (arith, common_steps)
-
-first_of_three : (a b c : Bool) → (a && b && c) ≡ true → a ≡ true
-first_of_three true b c h = refl
-first_of_three false b c h = absurd (cc)
-
-second_of_three : (a b c : Bool) → (a && b && c) ≡ true → b ≡ true
-second_of_three true true c h = refl
-second_of_three true false c h = absurd (cc)
-second_of_three false b c h = absurd (cc)
-
-third_of_three : (a b c : Bool) → (a && b && c) ≡ true → c ≡ true
-third_of_three true true c h = h
-third_of_three true false c h = absurd (cc)
-third_of_three false b c h = absurd (cc)
-
 pub can_is : (state : State) (key : KeyId) (closing opening : ℕ) → can_switch state key closing opening ≡ true → CanSwitch state key closing opening
-can_is state key closing opening h = record {
-  current = equal_is (current_of state key) closing (first_of_three (current_of state key == closing) (nat_lt closing opening) (nat_le opening (latest state)) h);
-  later = less_is closing opening (second_of_three (current_of state key == closing) (nat_lt closing opening) (nat_le opening (latest state)) h);
-  published = at_most_is opening (latest state) (third_of_three (current_of state key == closing) (nat_lt closing opening) (nat_le opening (latest state)) h);
-}
+can_is state key closing opening h =
+    let both = and_left (current_of state key == closing && nat_lt closing opening) (nat_le opening (latest state)) h in
+    record {
+      current = eqb-true (current_of state key) closing (and_left (current_of state key == closing) (nat_lt closing opening) both);
+      later = ltb-true closing opening (and_right (current_of state key == closing) (nat_lt closing opening) both);
+      published = leb-true opening (latest state) (and_right (current_of state key == closing && nat_lt closing opening) (nat_le opening (latest state)) h);
+    }
 
 -- the current epoch after an event
 pub data CurrentAfter (key : KeyId) (s : Store) (h : Happening) : Type 0 where
@@ -139,10 +119,7 @@ strong_there (x ∷ xs) (suc i) h = let later = strong_there xs i h in omega ari
 
 -- what stands at the end
 last_is : {X : Type 0} → (xs : List X) (y d : X) (i : ℕ) → i ≡ length xs → slice_index_or (xs ++ y ∷ []) i d ≡ y
-last_is {X} [] y d zero e = refl
-last_is {X} [] y d (suc i) e = absurd (omega arith)
-last_is {X} (x ∷ xs) y d zero e = absurd (omega arith)
-last_is {X} (x ∷ xs) y d (suc i) e = last_is xs y d i (omega arith)
+last_is {X} xs y d i e = ap (λ (n : ℕ). slice_index_or (xs ++ y ∷ []) n d) e ∙ get_or-append_seam xs y [] d
 
 -- the set's policy in a new epoch
 new_policy : (state : State) (table : List SetPolicy) (set : ℕ) → table_fault state table ≡ None → is_strong_set state set ≡ true → IsQuorumPolicy (policy_in (after_publish state table) (latest state + 1) set)
@@ -182,18 +159,12 @@ pub epoch_after : (s : Store) (h : Happening) → Happened s h → (e : ℕ) →
 epoch_after s h (directory_took message sent is) e le = same_latest s h e (ap (λ (x : Happening). latest x.store.directory) is ∙ taken_latest s.directory message) le
 epoch_after s h (published table right is) e le =
     let directory_is : h.store.directory ≡ after_publish s.directory table = ap (λ (x : Happening). x.store.directory) is in
-    let more : latest h.store.directory ≡ latest s.directory + 1 = ap latest directory_is ∙ one_more s.directory.tables (table_after s.directory table) in
+    let more : latest h.store.directory ≡ latest s.directory + 1 = ap latest directory_is ∙ length_push s.directory.tables (table_after s.directory table) in
     by (nat_le e (latest s.directory)) refl directory_is (omega arith)
   where
-    below : (a b : ℕ) → nat_le a b ≡ true → a ≤ b
-    below a b k = grind (arith, common_steps)
-
-    above : (a b : ℕ) → nat_le a b ≡ false → b < a
-    above a b k = grind (arith, common_steps)
-
     by : (b : Bool) → nat_le e (latest s.directory) ≡ b → h.store.directory ≡ after_publish s.directory table → e ≤ latest s.directory + 1 → EpochAfter s h e
-    by true is_le directory_is le_next = was_out (below e (latest s.directory) is_le)
-    by false is_above directory_is le_next = let gt = above e (latest s.directory) is_above in is_next table right directory_is (omega arith)
+    by true is_le directory_is le_next = was_out (leb-true e (latest s.directory) is_le)
+    by false is_above directory_is le_next = let gt = leb-false e (latest s.directory) is_above in is_next table right directory_is (omega arith)
 epoch_after s h o e le = same_latest s h e (ap (λ (x : Happening). latest x.store.directory) (is_made s h o)) le
 
 quorum_at : (key : KeyId) (s : Store) (h : Happening) → Happened s h → ((e : ℕ) → 1 ≤ e → e ≤ latest s.directory → IsQuorumPolicy (policy_of s key e)) → is_strong_key s key ≡ true → (e : ℕ) → 1 ≤ e → EpochAfter s h e → IsQuorumPolicy (policy_of h.store key e)

@@ -1,5 +1,6 @@
 -- Every event keeps what the openings of epochs and the messages of moves rest on.
-use Rattle.std.proofs.Common.{◌≡◌, inl, inr, ℕ, ◌<◌, Bool, true, false, List, [], ◌∷◌, refl, sym, ap, ◌∙◌, subst, arith, ◌==◌, if◌then◌else◌, Contains, ◌⊎◌}
+use Rattle.std.proofs.Common.{◌≡◌, inl, inr, ℕ, ◌<◌, Bool, true, false, List, [], ◌∷◌, refl, sym, ap, ◌∙◌, subst, arith, ◌==◌, if◌then◌else◌, Contains, ◌⊎◌, eqb-true}
+use Rattle.std.proofs.lemmas.Bool.{eqb-false}
 use Rattle.register_law.proofs.Words.{KeyId, Policy, Stamp, Message, Tag, State, current_of, Store, policy_of, proxy_at, view_at, Happening, Happened, IsChain, IsNewest, OpeningsAreBacked, Ghost, noted_of, Inv, Grows, IsKnown, WasSent, HereBacked, SwitchBacked, IsSamePoint, KeysAgree, among, opened_after}
 use Rattle.wire_msg.specs.declared.message.Message.TheVariants as m
 use Rattle.register_law.proofs.MovesStable.{sent_stays, known_stays, IsOut, here_stays, switch_stays}
@@ -9,7 +10,7 @@ use Rattle.register_law.proofs.OpeningsPosts.{posted_carries, posted_fresh}
 use Rattle.register_law.proofs.ReplicasKept.{views_after_event}
 use Rattle.register_law.proofs.OpeningsShown.{view_now, view_stays}
 use Rattle.register_law.proofs.TagsCalls.{proxies_stay}
-use Rattle.register_law.proofs.Basics.{WasPosted, apart_is, equal_is}
+use Rattle.register_law.proofs.Basics.{WasPosted}
 use Rattle.register_law.proofs.MovesKept.{posted}
 use Rattle.register_law.proofs.Growth.{grows_by}
 
@@ -37,7 +38,7 @@ longer key z tag closing opening (e ∷ rest) newest later sent c =
 chain_after : (key : KeyId) (s : Store) (g : Ghost) (h : Happening) → Inv key s g → Happened s h → CurrentAfter key s h → (b : Bool) → (current_of h.store.directory key == current_of s.directory key) ≡ b
     → IsChain key h.store (if b then g.opened else current_of h.store.directory key ∷ g.opened)
 chain_after key s g h inv is c true e = chain_stays key s g h.store (noted_of key s h g) (grows_by key s g h is inv) g.opened inv.openings.chain
-chain_after key s g h inv is (same_current same) false e = absurd (apart_is (current_of h.store.directory key) (current_of s.directory key) e same)
+chain_after key s g h inv is (same_current same) false e = absurd (eqb-false (current_of h.store.directory key) (current_of s.directory key) e same)
 chain_after key s g h inv is (switched tag closing opening sent can now) false e =
     let grows : Grows key s g h.store (noted_of key s h g) = grows_by key s g h is inv in
     subst (λ (n : ℕ). IsChain key h.store (n ∷ g.opened)) (sym now)
@@ -45,7 +46,7 @@ chain_after key s g h inv is (switched tag closing opening sent can now) false e
     (chain_stays key s g h.store (noted_of key s h g) grows g.opened inv.openings.chain))
 
 pub newest_after : (old new : ℕ) (opened : List ℕ) (b : Bool) → (new == old) ≡ b → IsNewest old opened → IsNewest new (if b then opened else new ∷ opened)
-newest_after old new opened true e k = subst (λ (n : ℕ). IsNewest n opened) (sym (equal_is new old e)) k
+newest_after old new opened true e k = subst (λ (n : ℕ). IsNewest n opened) (sym (eqb-true new old e)) k
 newest_after old new opened false e k = refl
 
 published_after : (key : KeyId) (s : Store) (g : Ghost) (h : Happening) → Inv key s g → Happened s h → CurrentAfter key s h → (b : Bool) → (current_of h.store.directory key == current_of s.directory key) ≡ b
@@ -56,7 +57,7 @@ published_after key s g h inv is c true t e there =
     let last = out.1 in
     let more = (grows_by key s g h is inv).published in
     (first, omega arith)
-published_after key s g h inv is (same_current same) false t e there = absurd (apart_is (current_of h.store.directory key) (current_of s.directory key) t same)
+published_after key s g h inv is (same_current same) false t e there = absurd (eqb-false (current_of h.store.directory key) (current_of s.directory key) t same)
 published_after key s g h inv is (switched tag closing opening sent can now) false t e there =
     let more = (grows_by key s g h is inv).published in
     elim (among (current_of h.store.directory key) g.opened e there) as (λ _. IsOut h.store e) [
@@ -111,7 +112,7 @@ switch_kept key s g h inv is tag old new (inr (whom, c)) =
 
 -- an epoch that is current after an event has been current
 opened_now : (old new : ℕ) (opened : List ℕ) (b : Bool) → (new == old) ≡ b → old < new → Contains (if b then opened else new ∷ opened) new
-opened_now old new opened true e lt = absurd (let same = equal_is new old e in omega arith)
+opened_now old new opened true e lt = absurd (let same = eqb-true new old e in omega arith)
 opened_now old new opened false e lt = (0, omega arith, refl)
 
 done_opens : (key : KeyId) (s : Store) (g : Ghost) (h : Happening) → KeysAgree key s → (tag : Tag) → (now : SwitchedNow s h tag key true) → Contains (opened_after key s h.store g.opened) now.opening

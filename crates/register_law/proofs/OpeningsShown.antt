@@ -1,6 +1,6 @@
 -- What a message or a call shows a proxy of the key has been current, with its policy; so its view is.
 use Rattle.std.proofs.Common.{◌≡◌, ℕ, true, List, refl, sym, ap, ◌∙◌, subst, ◌<◌, Option, Some, None, Contains, length}
-use Rattle.register_law.proofs.Words.{DcSet, KeyId, Stamp, Message, View, Tag, eventual_rule, Moving, strong_rule, Epoch, Switching, Handle, take, views_after, policy_of, view_at, handle_in, views_with, LiveCall, Ghost, Inv, IsLiveMove, IsMoveRequest, MoveBacked, Grows, WasSent, IsLiveAt, Rule, Proxy, proxy_at, Happening, StoreNext as Store, MoveStage as Stage}
+use Rattle.register_law.proofs.Words.{DcSet, KeyId, Stamp, Message, View, Tag, eventual_rule, Moving, strong_rule, Epoch, Switching, Handle, take, views_after, policy_of, view_at, handle_in, views_with, LiveCall, Ghost, Inv, IsLiveMove, IsMoveRequest, MoveBacked, Grows, WasSent, IsLiveAt, Rule, proxy_at, Happening, MoveStage as Stage}
 use Rattle.wire_msg.specs.declared.message.Message.TheVariants as m
 use Rattle.strong_proxy.specs.Rule as strong
 use Rattle.migration.specs.Move as moving

@@ -1,6 +1,6 @@
 -- What the directory tells at an event answers a request of the same key, and so after every event.
 use Rattle.std.proofs.Common.{◌≡◌, ℕ, Bool, refl, sym, ap, ◌∙◌, subst, ◌≤◌, true, List, [], ◌∷◌, arith, None, Contains, inr, inl, ◌⊎◌}
-use Rattle.register_law.proofs.Words.{KeyId, Policy, Actor, Message, Tag, current_of, latest, can_switch, first_tag, ticket_of, Store, policy_of, proxy_at, replica_at, view_at, Happening, is_strong_key, next_call, WasSent, request_key, Happened, IsNewest, OpeningsAreBacked, Ghost, noted_of, Inv, KeysAgree, SwitchAsked}
+use Rattle.register_law.proofs.Words.{KeyId, Policy, Actor, Message, Tag, current_of, latest, can_switch, Store, policy_of, replica_at, Happening, is_strong_key, WasSent, request_key, Happened, IsNewest, OpeningsAreBacked, Ghost, noted_of, Inv, KeysAgree, SwitchAsked}
 use Rattle.wire_msg.specs.declared.actor.Actor.TheVariants as to
 use Rattle.wire_msg.specs.declared.message.Message.TheVariants as m
 use Rattle.epoch_directory.specs.Step.{step}
@@ -36,7 +36,7 @@ pub record ToldNow (s : Store) (h : Happening) (message : Message) : Type 0 wher
 
 pub told_now : (s : Store) (h : Happening) (whom : Actor) (message : Message) → IsTold message → Posted s h (record { to = whom; message = message }) → ToldNow s h message
 told_now s h whom message is (by_start p at work st c) =
-    let own = opened_own (is_strong_key s at) (first_tag (next_call s p) st.handle) (proxy_at s p).at (view_at (proxy_at s p).views at) (ticket_of (proxy_at s p) (view_at (proxy_at s p).views at) (next_call s p)) work st.taken st.first (record { to = whom; message = message }) c in
+    let own = opened_own s p at work h st (record { to = whom; message = message }) c in
     absurd (let e = sym own.key_is ∙ told_is_no_request message is in cc)
 told_now s h whom message is (by_replica d from sent c) = told (replica_posts (replica_at s d).state from (record { to = whom; message = message }) c)
   where

@@ -1,24 +1,13 @@
 -- How many replicas two sets must share, and the quorums of a sound policy do; so what is settled in an epoch is settled in each later one.
-use Rattle.std.proofs.Common.{◌≡◌, ℕ, ◌+◌, ◌*◌, ◌≤◌, ◌<◌, Bool, true, false, cond, List, [], ◌∷◌, refl, sym, subst, arith, ◌⊎◌, inl, inr, ◌∙◌, ◌≢◌, ◌&&◌, ◌||◌, length, ◌==◌, filter, find, if◌then◌else◌, All, Some, Contains, zero, suc, slice_index_or}
-use Rattle.register_law.proofs.Words.{has, insert, DcSet, Within, both, count_of, centres_of, IsQuorumPolicy, Meets, faults_of, member_of, members_of, Policy, Direct, Relay, Quorum, range_with_len, common_steps, All-contains, has-insert_other, has-insert_same, count-meet_left, count-meet_right, Contains-there, KeyId, IsAbove, IsAtMost, Stamp, Tag, Store, IsChain, Ghost, IsFrozenSet, IsSettled, WasSent, is_at_most, version_before, SwitchBacked}
+use Rattle.std.proofs.Common.{◌≡◌, ℕ, ◌+◌, ◌*◌, ◌≤◌, ◌<◌, Bool, true, false, cond, List, [], ◌∷◌, refl, sym, subst, arith, inl, inr, ◌&&◌, ◌||◌, length, ◌==◌, filter, find, if◌then◌else◌, All, Some, Contains}
+use Rattle.std.proofs.lemmas.Bool.{and_from}
+use Rattle.register_law.proofs.Words.{has, DcSet, Within, both, count_of, centres_of, IsQuorumPolicy, Meets, faults_of, member_of, members_of, Policy, Direct, Relay, Quorum, range_with_len, common_steps, All-contains, count-meet_left, count-meet_right, Contains-there, KeyId, IsAbove, IsAtMost, Stamp, Tag, Store, IsChain, Ghost, IsFrozenSet, IsSettled, WasSent, is_at_most, version_before, SwitchBacked, and_left, and_right, among, none_among}
 use Rattle.span_base.specs.declared.policy.Policy.TheVariants.{Strong}
 use Rattle.ticket_rules.proofs.StampOrder.{IsAbove-trans, IsAtMost-cases}
 use Rattle.wire_msg.specs.declared.message.Message.TheVariants as m
 
 abbrev either : (ℕ → Bool) → (ℕ → Bool) → ℕ → Bool
 either p q d = p d || q d
-
-pub and_left : (a b : Bool) → (a && b) ≡ true → a ≡ true
-and_left true b h = refl
-and_left false b h = h
-
-pub and_right : (a b : Bool) → (a && b) ≡ true → b ≡ true
-and_right true b h = h
-and_right false b h = absurd (cc h)
-
-pub and_both : (a b : Bool) → a ≡ true → b ≡ true → (a && b) ≡ true
-and_both true b h k = k
-and_both false b h k = h
 
 or_cases : (a b c : Bool) → (a ≡ true → c ≡ true) → (b ≡ true → c ≡ true) → (a || b) ≡ true → c ≡ true
 or_cases true b c f g h = f refl
@@ -93,21 +82,6 @@ crossing f s t a b as_ bt ha hb h =
     let z = shared st (both a st) (both b st) (λ d k. and_right (a d) (st d) k) (λ d k. and_right (b d) (st d) k) (omega arith) in
     (z.0, and_left (a z.0) (st z.0) z.1, and_left (b z.0) (st z.0) z.2)
 
-pub equal_or_not : (d e : ℕ) → (d ≡ e) ⊎ (d ≢ e)
-equal_or_not d e = by (d == e) refl
-  where
-    by : (b : Bool) → (d == e) ≡ b → (d ≡ e) ⊎ (d ≢ e)
-    by true h = inl (grind (arith, common_steps))
-    by false h = inr (λ k. grind (arith, common_steps))
-
--- who is in a set with one more
-pub inserted : (set : DcSet) (more d : ℕ) → has (insert set more) d ≡ true → (d ≡ more) ⊎ (has set d ≡ true)
-inserted set more d h = elim (equal_or_not d more) as (λ _. (d ≡ more) ⊎ (has set d ≡ true)) [ inl e ↦ inl e | inr e ↦ inr (sym (has-insert_other set more d e) ∙ h) ]
-
-pub stays_in : (set : DcSet) (more d : ℕ) → more < 16 → has set d ≡ true → has (insert set more) d ≡ true
-stays_in set more d lt h =
-    elim (equal_or_not d more) as (λ _. has (insert set more) d ≡ true) [ inl e ↦ subst (λ n. has (insert set more) n ≡ true) (sym e) (has-insert_same set more lt) | inr e ↦ has-insert_other set more d e ∙ h ]
-
 -- ---- the members of a sound strong policy, and how many centres their quorums share
 
 -- what is found is there
@@ -126,24 +100,20 @@ member_is_in (Direct f replicas primary) at member h = absurd (cc)
 member_is_in (Relay f replicas primary parent) at member h = absurd (cc)
 member_is_in (Strong f replicas members) at member h = found_in (λ q. q.dc.0 == at) members member h
 
-pub faults_are_tolerance : (policy : Policy) → faults_of policy ≡ faults_of policy
-faults_are_tolerance (Direct f replicas primary) = refl
-faults_are_tolerance policy = refl
-
 pub members_meet : (policy : Policy) (a b : Quorum) → IsQuorumPolicy policy → Contains (members_of policy) a → Contains (members_of policy) b → Meets (2 * faults_of policy + 1) a b
 members_meet (Direct f replicas primary) a b h x y = absurd h
 members_meet (Relay f replicas primary parent) a b h x y = absurd h
 members_meet (Strong f replicas members) a b h x y =
     All-contains (λ q. Meets (2 * f + 1) a q) members b (All-contains (λ c. All (λ q. Meets (2 * f + 1) c q) members) members a h.quorums_meet x) y
 
-pub reads_some : (policy : Policy) (member : Quorum) → IsQuorumPolicy policy → Contains (members_of policy) member → 1 ≤ length (centres_of member.read)
-reads_some policy member h x =
+pub reads_many : (policy : Policy) (member : Quorum) → IsQuorumPolicy policy → Contains (members_of policy) member → 2 * faults_of policy + 1 ≤ length (centres_of member.read)
+reads_many policy member h x =
     let m = (members_meet policy member member h x x).0 in
     let c = count-meet_left member.read member.write in
     omega (arith, m, c)
 
-pub writes_some : (policy : Policy) (member : Quorum) → IsQuorumPolicy policy → Contains (members_of policy) member → 1 ≤ length (centres_of member.write)
-writes_some policy member h x =
+pub writes_many : (policy : Policy) (member : Quorum) → IsQuorumPolicy policy → Contains (members_of policy) member → 2 * faults_of policy + 1 ≤ length (centres_of member.write)
+writes_many policy member h x =
     let m = (members_meet policy member member h x x).0 in
     let c = count-meet_right member.read member.write in
     omega (arith, m, c)
@@ -174,21 +144,10 @@ pub settled_below : (key : KeyId) (s : Store) (g : Ghost) (epoch : ℕ) (high lo
 settled_below key s g epoch high low below h =
     let w : ℕ → Bool = has h.member.write in
     let more = count_mono (both w (λ d. is_at_most high (version_before key s g d epoch))) (both w (λ d. is_at_most low (version_before key s g d epoch)))
-    (λ d k. and_both (w d) (is_at_most low (version_before key s g d epoch)) (and_left (w d) (is_at_most high (version_before key s g d epoch)) k)
+    (λ d k. and_from (w d) (is_at_most low (version_before key s g d epoch)) (and_left (w d) (is_at_most high (version_before key s g d epoch)) k)
     (at_most_trans low high (version_before key s g d epoch) below (and_right (w d) (is_at_most high (version_before key s g d epoch)) k))) (range_with_len 0 16) in
     let most = h.settled in
     record { member = h.member; is_member = h.is_member; settled = omega arith }
-
-Contains-none : (e : ℕ) → Contains [] e → ⊥
-Contains-none e h = let lt = h.1 in omega arith
-
--- it is the first, or it is among the others
-Contains-cases : (x : ℕ) (xs : List ℕ) (e : ℕ) → Contains (x ∷ xs) e → (e ≡ x) ⊎ Contains xs e
-Contains-cases x xs e h = cases h.0 h.1 h.2
-  where
-    cases : (k : ℕ) → k < length (x ∷ xs) → slice_index_or (x ∷ xs) k e ≡ e → (e ≡ x) ⊎ Contains xs e
-    cases zero lt is = inl (sym is)
-    cases (suc k) lt is = inr (k, omega arith, is)
 
 -- a frozen set meets whoever settled a stamp: one of its replicas had it
 pub frozen_met : (key : KeyId) (s : Store) (g : Ghost) (old : ℕ) (frozen : DcSet) (seeded stamp : Stamp) → IsFrozenSet key s g old frozen seeded → IsSettled key s g old stamp
@@ -211,9 +170,9 @@ one_step key s g old new stamp b h =
     settled_below key s g new b.seeded stamp below b.settled
 
 pub carried_up : (key : KeyId) (s : Store) (g : Ghost) → ((tag : Tag) (old new : ℕ) → WasSent s (m.Switch tag key old new) → SwitchBacked key s g old new) → (stamp : Stamp) (new : ℕ) (rest : List ℕ) → IsChain key s (new ∷ rest) → (e : ℕ) → Contains (new ∷ rest) e → IsSettled key s g e stamp → IsSettled key s g new stamp
-carried_up key s g backed stamp new [] c e h k = elim (Contains-cases new [] e h) as (λ _. IsSettled key s g new stamp) [ inl is ↦ subst (λ x. IsSettled key s g x stamp) is k | inr none ↦ absurd (Contains-none e none) ]
+carried_up key s g backed stamp new [] c e h k = elim (among new [] e h) as (λ _. IsSettled key s g new stamp) [ inl is ↦ subst (λ x. IsSettled key s g x stamp) is k | inr none ↦ absurd (none_among e none) ]
 carried_up key s g backed stamp new (old ∷ rest) c e h k =
-    elim (Contains-cases new (old ∷ rest) e h) as (λ _. IsSettled key s g new stamp) [
+    elim (among new (old ∷ rest) e h) as (λ _. IsSettled key s g new stamp) [
       | inl is ↦ subst (λ x. IsSettled key s g x stamp) is k
       | inr later ↦ one_step key s g old new stamp (backed c.1.tag old new c.1.sent) (carried_up key s g backed stamp old rest c.2 e later k)
     ]

@@ -1,12 +1,12 @@
 -- Every event keeps what the replicas rest on.
 use Rattle.std.proofs.Common.{◌≡◌, inl, inr, ℕ, Bool, true, false, List, refl, sym, ap, ◌∙◌, subst, nat_lt, if◌then◌else◌, slice_set, slice_index_or, ◌<◌, arith, ◌⊎◌, length, Option, Some, None, nat_le, not, ◌&&◌, Contains}
 use Rattle.std.proofs.lemmas.Bool.{ltb-true, ltb-false, le-leb}
-use Rattle.register_law.proofs.Words.{KeyId, Policy, Message, View, Tag, views_after, Proxy, Store, no_proxy, no_view, proxy_at, view_at, Happening, views_with, LiveCall, CallTook, Happened, call_took, gave_up, proxy_learned, proxy_stopped, refused_at_once, started, WasSent, kept_after, kept_at, key_of, step_at, Replica, kept_of, no_replica, replica_at, with_replica, TakenBy, replica_stopped, replica_took, IsSeat, IsAtMost, grants, stamp_cmp, stamp_zero, stores, Stamp, is_over, merge, Rises, Kept, Ghost, noted_of, Inv, ReplicasAreBacked, WasAsked, IsKept, length-set, get_or-set_same, get_or_past, is_gt, IsAtMost-trans}
+use Rattle.register_law.proofs.Words.{KeyId, Policy, Message, View, Tag, views_after, Proxy, Store, no_proxy, no_view, proxy_at, view_at, Happening, views_with, LiveCall, CallTook, Happened, call_took, gave_up, proxy_learned, proxy_stopped, refused_at_once, started, WasSent, kept_after, kept_at, key_of, step_at, Replica, kept_of, no_replica, replica_at, with_replica, TakenBy, replica_stopped, replica_took, IsSeat, IsAtMost, grants, stamp_cmp, stamp_zero, stores, Stamp, is_over, merge, Rises, Kept, Ghost, noted_of, Inv, ReplicasAreBacked, WasAsked, IsKept, length-set, get_or-set_same, get_or_past, is_gt, IsAtMost-trans, same_key}
 use Rattle.wire_msg.specs.declared.actor.Actor.TheVariants as to
 use Rattle.wire_msg.specs.declared.message.Message.TheVariants as m
 use Rattle.replica_core.specs.Keeping.{opening}
 use Rattle.replica_core.specs.Rule.{State, step}
-use Rattle.register_law.proofs.Basics.{same_key, either, is_made}
+use Rattle.register_law.proofs.Basics.{either, is_made}
 use Rattle.register_law.proofs.Kept.{set_cases, KeptIs, kept_cases, rises, versions_known}
 use Rattle.register_law.proofs.TagsCalls.{taken_of}
 use Rattle.register_law.proofs.TagsSent.{was_sent_stays}

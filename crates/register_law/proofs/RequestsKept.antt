@@ -1,5 +1,6 @@
 -- Every event keeps it that each phase of a call of a strong key has one request, of a call that was begun.
 use Rattle.std.proofs.Common.{◌≡◌, ℕ, ◌+◌, ◌<◌, ◌≤◌, Bool, true, false, List, [], ◌∷◌, ◌++◌, refl, sym, ap, ◌∙◌, subst, arith, ◌==◌, ◌&&◌, if◌then◌else◌, length, Option, Some, None, IsSome, ◌⊎◌, inl, inr, Contains}
+use Rattle.std.proofs.lemmas.Option.{same_Some}
 use Rattle.std.proofs.lemmas.Bool.{eq-eqb}
 use Rattle.register_law.proofs.Words.{Call, KeyId, Stamp, Reply, current_of, is_same_call, Mark, Work, Proxy, Store, proxy_at, Happening, end_marks, fits_mode, ticket_marks, with_proxy, Happened, call_took, gave_up, next_call, not_published, published, refused_at_once, started, Begun, Ghost, begun_after, is_noted, noted_of, RequestsAreOne, tag_of, Message, Post, Tag, Handle, key_of_call, tag_of_call, ticket_of, view_at, handle_in, is_strong_key, LiveCall, Started, WasSent, IsPushFree, IsSamePoint, TagsTellApart, request_key, none_among}
 use Rattle.run_marks.specs.declared.mark.Work.TheVariants as w
@@ -7,7 +8,7 @@ use Rattle.run_marks.specs.declared.mark.Mark.TheVariants as k
 use Rattle.register_order.proofs.Tests.{same_call}
 use Rattle.world_core.specs.Starting.{ticket_marks as begin_marks}
 use Rattle.register_law.proofs.Growth.{step_grows, calls_grow}
-use Rattle.register_law.proofs.Basics.{is_itself, key_is, is_made, sent_or_posted, same_some, flipped}
+use Rattle.register_law.proofs.Basics.{is_itself, key_is, is_made, sent_or_posted, flipped, some_begun, is_some_of}
 use Rattle.register_law.proofs.TagsCalls.{proxy_is, LiveFrom, older, newer, live_from, next_is_none, started_opens, start_is_fresh, phase_is_fresh}
 use Rattle.register_law.proofs.TagsSent.{IsAnswer, IsPushedOn, PostsAre, none, answered, of_start, of_call, posts_are, Posted, replies, opens, asks, posted, sent_after, call_sends}
 
@@ -16,19 +17,37 @@ pub data BegunIs (key : KeyId) (g : Ghost) (marks : List Mark) (call : Call) : T
   begun_before : IsSome (g.begun call) → BegunIs key g marks call
   begun_now : (work : Work) (rest : List Mark) → marks ≡ k.Begin call key work ∷ rest → BegunIs key g marks call
 
-noted_now : (X : Type 0) (x y z : Bool) (new : Begun) (was : Option Begun) → (x ≡ true → z ≡ true → X) → (IsSome was → X) → IsSome (if x && (y && z) then Some new else was) → X
-noted_now X true true true new was f g h = f refl refl
-noted_now X true true false new was f g h = g h
-noted_now X x y z new was f g h = g h
+-- what is noted of a call that the event begins
+pub record BeginsWith (key : KeyId) (s : Store) (g : Ghost) (h : Happening) (call : Call) (b : Begun) : Type 0 where
+  pub rest : List Mark
+  pub marks : h.marks ≡ k.Begin call key b.work ∷ rest
+  pub floor : b.floor ≡ g.top
+  pub epoch : b.epoch ≡ current_of s.directory key
 
-begun_by : (key : KeyId) (g : Ghost) (top : Stamp) (epoch : ℕ) (marks : List Mark) (call : Call) → IsSome (begun_after key top epoch marks g.begun call) → BegunIs key g marks call
-begun_by key g top epoch (k.Begin begun at work ∷ rest) call h =
-    noted_now (BegunIs key g (k.Begin begun at work ∷ rest) call) (at.0 == key.0) (is_noted work) (is_same_call begun call) (record { work = work; floor = top; epoch = epoch }) (g.begun call)
-    (λ a c. begun_now work rest (ap (λ (x : KeyId). k.Begin begun x work ∷ rest) (key_is at key a) ∙ ap (λ (x : Call). k.Begin x key work ∷ rest) (same_call begun call c))) (λ b. begun_before b) h
-begun_by key g top epoch marks call h = begun_before h
+noted_cases : (X : Type 0) (x y z : Bool) (new b : Begun) (was : Option Begun) → (x ≡ true → z ≡ true → new ≡ b → X) → (was ≡ Some b → X) → (if x && (y && z) then Some new else was) ≡ Some b → X
+noted_cases X true true true new b was f g h = f refl refl (cc)
+noted_cases X true true false new b was f g h = g h
+noted_cases X x y z new b was f g h = g h
+
+-- what is noted of a call after an event was noted before, or the event begins it
+pub begun_with : (key : KeyId) (s : Store) (g : Ghost) (h : Happening) (call : Call) (b : Begun) → (noted_of key s h g).begun call ≡ Some b → (g.begun call ≡ Some b) ⊎ BeginsWith key s g h call b
+begun_with key s g h call b e = by h.marks refl e
+  where
+    by : (marks : List Mark) → h.marks ≡ marks → begun_after key g.top (current_of s.directory key) marks g.begun call ≡ Some b → (g.begun call ≡ Some b) ⊎ BeginsWith key s g h call b
+    by (k.Begin other at work ∷ rest) is e =
+        noted_cases ((g.begun call ≡ Some b) ⊎ BeginsWith key s g h call b) (at.0 == key.0) (is_noted work) (is_same_call other call) (record { work = work; floor = g.top; epoch = current_of s.directory key }) b (g.begun call)
+        (λ x z new. inr (record {
+          rest = rest;
+          marks = is ∙ ap (λ (v : KeyId). k.Begin other v work ∷ rest) (key_is at key x) ∙ ap (λ (v : Call). k.Begin v key work ∷ rest) (same_call other call z) ∙ ap (λ (v : Begun). k.Begin call key v.work ∷ rest) new;
+          floor = ap (λ (v : Begun). v.floor) (sym new);
+          epoch = ap (λ (v : Begun). v.epoch) (sym new);
+        })) (λ was. inl was) e
+    by marks is e = inl e
 
 pub begun_is : (key : KeyId) (s : Store) (g : Ghost) (h : Happening) (call : Call) → IsSome ((noted_of key s h g).begun call) → BegunIs key g h.marks call
-begun_is key s g h call some = begun_by key g g.top (current_of s.directory key) h.marks call some
+begun_is key s g h call some =
+    let b = some_begun ((noted_of key s h g).begun call) some in
+    elim (begun_with key s g h call b.0 b.1) as (λ _. BegunIs key g h.marks call) [ inl old ↦ begun_before (is_some_of (g.begun call) b.0 old) | inr new ↦ begun_now b.0.work new.rest new.marks ]
 
 -- a read, a write or a move of the key that the first mark begins is noted with its work
 pub begun_first : (key : KeyId) (top : Stamp) (epoch : ℕ) (marks rest : List Mark) (begun : Call → Option Begun) (call : Call) (work : Work) → is_noted work ≡ true → marks ≡ k.Begin call key work ∷ rest
@@ -118,7 +137,7 @@ start_strong key s g h p at work b st is = subst (λ (x : KeyId). is_strong_key 
 -- no push of the key is sent
 pushes_none : (key : KeyId) (s : Store) (g : Ghost) (h : Happening) (message : Message) → Before key s g → request_key message ≡ Some key → Posted s h message → IsPushFree message
 pushes_none key s g h message b at (replies from sent answer) = no_answer_asks (IsPushFree message) key s g from message b sent at answer
-pushes_none key s g h message b at (opens p k work st tag is free) = free (start_strong key s g h p k work b st (same_some (view_at (proxy_at s p).views k).key key (sym is ∙ at)))
+pushes_none key s g h message b at (opens p k work st tag is free) = free (start_strong key s g h p k work b st (same_Some (view_at (proxy_at s p).views k).key key (sym is ∙ at)))
 pushes_none key s g h message b at (asks p taken call post took tag is free c) = free
 
 -- the call that begins on the key is noted
@@ -134,10 +153,10 @@ start_noted key s g h p at work b st is =
 begun_posted : (key : KeyId) (s : Store) (g : Ghost) (h : Happening) → Happened s h → (message : Message) → Before key s g → request_key message ≡ Some key → Posted s h message → IsSome ((noted_of key s h g).begun (tag_of message).call)
 begun_posted key s g h is message b at (replies from sent answer) = no_answer_asks (IsSome ((noted_of key s h g).begun (tag_of message).call)) key s g from message b sent at answer
 begun_posted key s g h is message b at (opens p k work st tag of free) =
-    subst (λ (t : Tag). IsSome ((noted_of key s h g).begun t.call)) (sym tag) (start_noted key s g h p k work b st (same_some (view_at (proxy_at s p).views k).key key (sym of ∙ at)))
+    subst (λ (t : Tag). IsSome ((noted_of key s h g).begun t.call)) (sym tag) (start_noted key s g h p k work b st (same_Some (view_at (proxy_at s p).views k).key key (sym of ∙ at)))
 begun_posted key s g h is message b at (asks p taken call post took tag of free c) =
     subst (λ (t : Tag). IsSome ((noted_of key s h g).begun t.call)) (sym tag)
-    (begun_some_stays key s g h is b.requests (tag_of_call call).call (b.requests.live_begun p (handle_in taken) call took.live (same_some (key_of_call call) key (sym of ∙ at))))
+    (begun_some_stays key s g h is b.requests (tag_of_call call).call (b.requests.live_begun p (handle_in taken) call took.live (same_Some (key_of_call call) key (sym of ∙ at))))
 
 pub request_begun_after : (key : KeyId) (s : Store) (g : Ghost) (h : Happening) → Happened s h → Before key s g → (request : Message) → WasSent h.store request → request_key request ≡ Some key → IsSome ((noted_of key s h g).begun (tag_of request).call)
 request_begun_after key s g h is b request sent at =
@@ -191,7 +210,7 @@ new_and_new key s g h a c b (answered from sent all) ca cc' at = no_answer_asks 
 new_and_new key s g h a c b (of_start p k work st e) ca cc' at =
     let first = started_opens s p k work h st in
     let there = subst (λ (x : List Post). Contains x a) e ca in
-    let keyed : (view_at (proxy_at s p).views k).key ≡ key = same_some (view_at (proxy_at s p).views k).key key (sym (first.requests a there).1 ∙ at) in
+    let keyed : (view_at (proxy_at s p).views k).key ≡ key = same_Some (view_at (proxy_at s p).views k).key key (sym (first.requests a there).1 ∙ at) in
     let one = first.one (start_strong key s g h p k work b st keyed) in
     one.copies a there ∙ sym (one.copies c (subst (λ (x : List Post). Contains x c) e cc'))
 new_and_new key s g h a c b (of_call p message call took e) ca cc' at =

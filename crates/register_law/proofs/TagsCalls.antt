@@ -7,6 +7,7 @@ use Rattle.register_law.proofs.Basics.{both_equal, is_itself, is_made}
 use Rattle.register_law.proofs.Growth.{calls_grow}
 use Rattle.register_law.proofs.TagsSends.{GoesOn, stays, turns, ends}
 use Rattle.register_law.proofs.TagsSteps.{may_ask, take_goes_on, Opens, call_opens}
+use Rattle.register_law.proofs.CallsRows.{OpensAs, opens}
 
 -- what a live call makes of a message
 abbrev pub taken_of : Store → ℕ → Message → LiveCall → Taken
@@ -138,6 +139,11 @@ same_place s tags p q a b first second one other same =
 -- ---- a call that lives after an event lived before it, in the same phase or an earlier one, or is the next one of its proxy; and what a call sends has a phase in which nothing was sent
 
 -- what a call begins with
+pub started_as : (s : Store) (p : ℕ) (key : KeyId) (work : Work) (h : Happening) (st : Started s p key work h)
+    → OpensAs (first_tag (next_call s p) st.handle) (proxy_at s p).at (view_at (proxy_at s p).views key) (ticket_of (proxy_at s p) (view_at (proxy_at s p).views key) (next_call s p)) (is_strong_key s key) work st.taken
+started_as s p key work h st =
+    opens (is_strong_key s key) (first_tag (next_call s p) st.handle) (proxy_at s p).at (view_at (proxy_at s p).views key) (ticket_of (proxy_at s p) (view_at (proxy_at s p).views key) (next_call s p)) work st.taken st.first
+
 pub started_opens : (s : Store) (p : ℕ) (key : KeyId) (work : Work) (h : Happening) (st : Started s p key work h)
     → Opens (is_strong_key s key) (ticket_of (proxy_at s p) (view_at (proxy_at s p).views key) (next_call s p)) (first_tag (next_call s p) st.handle) (view_at (proxy_at s p).views key).key st.taken
 started_opens s p key work h st =

@@ -2,6 +2,7 @@
 use Rattle.std.proofs.Common.{◌≡◌, inl, inr, ℕ, List, [], ◌∷◌, refl, ap, map, Option, Some, None, IsSome, Contains}
 use Rattle.register_law.proofs.Words.{centres_of, DcSet, KeyId, Stamp, tag_of, Message, Outputs, Post, Tag, next_tag, post_to, posts_to, key_of_call, tag_of_call, LiveCall, IsPushFree, request_key, among, none_among}
 use Rattle.wire_msg.specs.declared.message.Message.TheVariants as m
+use Rattle.wire_msg.specs.declared.actor.Actor.TheVariants as to
 
 -- each post has this message
 abbrev pub AreCopies : Message → List Post → Type 0
@@ -52,3 +53,7 @@ sends_only May tag key post t k f n = record {
   push_free = f;
   asks = λ stamp e. absurd (cc);
 }
+
+-- a Lookup
+pub sends_look : (May : Stamp → Type 0) (tag : Tag) (key : KeyId) → SendsOne May tag key (record { to = to.Directory; message = m.Lookup tag key } ∷ [])
+sends_look May tag key = sends_only May tag key (record { to = to.Directory; message = m.Lookup tag key }) refl refl tt refl

@@ -1,6 +1,6 @@
 -- A call begins with the first tag and one request of it; whatever call takes a message stays in its phase, goes on to the next one or ends.
-use Rattle.std.proofs.Common.{◌≡◌, ℕ, ◌<◌, List, refl, sym, subst, arith, ap, ◌∙◌, Option, Some, None, Bool, true, [], ◌∷◌, Contains}
-use Rattle.register_law.proofs.Words.{centres_of, KeyId, Stamp, Step, Message, View, Tag, Found, counted, is_counted, progress_after, first_posts, next_ticket, repair_posts, store_posts, tag_after, Next, Leg, Progress, CallState, ToRead, ToWrite, Strong, IsTicketOf, replicas_of, next_tag, Moving, Rule, key_of_call, tag_of_call, LiveCall, eventual_rule, strong_rule, take, Eventual, EventualMove, StrongMove, StrongWork, DcId, Quorum, stamp_zero, tag_of, Post, leg_under, directs_below, Work, Taken, of_strong, opened_call, request_key}
+use Rattle.std.proofs.Common.{◌≡◌, ℕ, ◌<◌, List, refl, sym, subst, arith, ap, ◌∙◌, Option, Some, None, Bool, true, Contains, false}
+use Rattle.register_law.proofs.Words.{centres_of, KeyId, Stamp, Step, Message, View, Tag, Found, counted, is_counted, progress_after, first_posts, next_ticket, repair_posts, store_posts, tag_after, Next, Leg, Progress, CallState, ToRead, ToWrite, Strong, IsTicketOf, replicas_of, next_tag, Moving, Rule, key_of_call, tag_of_call, LiveCall, eventual_rule, strong_rule, take, Eventual, EventualMove, StrongMove, StrongWork, DcId, stamp_zero, tag_of, Post, leg_under, directs_below, Work, Taken, opened_call, request_key}
 use Rattle.wire_msg.specs.declared.actor.Actor.TheVariants as to
 use Rattle.wire_msg.specs.declared.message.Message.TheVariants as m
 use Rattle.strong_proxy.specs.declared.next.Next.TheVariants as n
@@ -12,9 +12,9 @@ use Rattle.relay_proxy.specs.Rule as eventual
 use Rattle.register_law.proofs.MovesStep.{counted_tag, MoveTook, move_took, unheard, was_current, froze_first, froze_one, froze_all, seeded_next, seeded_all, was_refused, was_stale, arrived}
 use Rattle.register_law.proofs.Basics.{either, each_map}
 use Rattle.register_law.proofs.Next.{EntersWith, rests_on}
-use Rattle.register_law.proofs.TagsSends.{SendsOne, GoesOn, stays, turns, ends, copies_to, sends_none, sends_each, sends_only, never}
+use Rattle.register_law.proofs.TagsSends.{SendsOne, GoesOn, stays, turns, ends, copies_to, sends_none, sends_each, sends_only, never, sends_look}
 use Rattle.register_law.proofs.CallsOthers.{eventual_out}
-use Rattle.register_law.proofs.CallsRows.{OpensAs, opens_read, opens_write, opens_move, opens_get, opens_put, opens_eventual_move, opens}
+use Rattle.register_law.proofs.CallsRows.{OpensAs, opens_read, opens_write, opens_move, opens_get, opens_put, opens_eventual_move, opens, opens_get_any}
 
 -- the first request of a leg: a write asks for its ticket
 pub first_sends : (May : Stamp → Type 0) (work : StrongWork) (key : KeyId) (tag : Tag) (leg : Leg) → ((value : List ℕ) → work ≡ ToWrite value → May leg.ticket) → SendsOne May tag key (first_posts work key tag leg)
@@ -40,8 +40,8 @@ done_goes_on : (May : Stamp → Type 0) (next : Next) (call : CallState) → ((l
 done_goes_on May n.Repair call may = turns refl refl (repair_sends May call.best call.progress)
 done_goes_on May n.Store call may = turns refl refl (store_sends May call.work call.progress)
 done_goes_on May n.Stored call may = ends refl refl refl (sends_each May (tag_after call.progress) call.progress.key (m.Confirm (tag_after call.progress) call.progress.key call.progress.leg.ticket) call.progress.leg.writes refl refl tt refl)
-done_goes_on May n.Look call may = turns refl refl (sends_only May (tag_after call.progress) call.progress.key (record { to = to.Directory; message = m.Lookup (tag_after call.progress) call.progress.key }) refl refl tt refl)
-done_goes_on May n.Moved call may = ends refl refl refl (sends_only May (tag_after call.progress) call.progress.key (record { to = to.Directory; message = m.Lookup (tag_after call.progress) call.progress.key }) refl refl tt refl)
+done_goes_on May n.Look call may = turns refl refl (sends_look May (tag_after call.progress) call.progress.key)
+done_goes_on May n.Moved call may = ends refl refl refl (sends_look May (tag_after call.progress) call.progress.key)
 done_goes_on May (n.Enter leg) call may = turns refl refl (first_sends May call.work call.progress.key (tag_after call.progress) leg (λ value is. may leg value refl is))
 done_goes_on May next call may = stays refl refl refl
 
@@ -50,16 +50,11 @@ pub record AsksAfter (call : CallState) (stamp : Stamp) : Type 0 where
   pub later : call.progress.leg.epoch < stamp.epoch
   pub drawn : IsTicketOf call.progress.phase.tag stamp
 
--- only a write asks for a ticket
-drawn_next : (work : StrongWork) (value : List ℕ) (ticket : Stamp) (view : View) (seen : ℕ) (p : Progress) → work ≡ ToWrite value → EntersWith work ticket view seen p → ticket ≡ next_ticket view seen p
-drawn_next ToRead value ticket view seen p is drawn = absurd (cc)
-drawn_next (ToWrite other) value ticket view seen p is drawn = drawn
-
 asks_after : (call : CallState) (message : Message) (view : View) (seen : ℕ) (leg : Leg) (value : List ℕ) → strong.next_of (counted call message) view seen ≡ n.Enter leg → call.work ≡ ToWrite value → AsksAfter call leg.ticket
 asks_after call message view seen leg value next work =
     let p : Progress = progress_after call.progress message in
     let when = rests_on (counted call message) view seen (n.Enter leg) next in
-    let ticket : leg.ticket ≡ next_ticket view seen p = ap (λ (x : Leg). x.ticket) when.leg_is ∙ drawn_next call.work value when.ticket view seen p work when.ticket_is in
+    let ticket : leg.ticket ≡ next_ticket view seen p = ap (λ (x : Leg). x.ticket) when.leg_is ∙ subst (λ (w : StrongWork). EntersWith w when.ticket view seen p) work when.ticket_is in
     let drawn : IsTicketOf p.phase.tag (next_ticket view seen p) = record { proxy = refl; seq = refl; some = omega arith } in
     let later : p.leg.epoch < (next_ticket view seen p).epoch = when.later in
     subst (AsksAfter call) (sym ticket)
@@ -95,7 +90,7 @@ took_goes live among rule call message new (froze_all tag replica version mark v
 took_goes live among rule call message new (seeded_next tag replica old target frozen seeded top_gone at got c is) = subst (MoveGoes live call) (sym is) (stays (among.key _) (among.tag _) refl)
 took_goes live among rule call message new (seeded_all tag replica old target frozen seeded top_gone at got c q is) = subst (MoveGoes live call) (sym is) (turns (among.key _) (among.tag _) (sends_only never (next_tag call.phase.tag) call.key (record { to = to.Directory; message = m.Switch (next_tag call.phase.tag) call.key old target.number }) refl refl tt refl))
 took_goes live among rule call message new (was_refused tag replica epoch old target frozen seeded top_gone at got c is) = subst (MoveGoes live call) (sym is) (stays (among.key _) (among.tag _) refl)
-took_goes live among rule call message new (was_stale epoch own is) = subst (MoveGoes live call) (sym is) (ends (among.key _) (among.tag _) refl (sends_only never (next_tag call.phase.tag) call.key (record { to = to.Directory; message = m.Lookup (next_tag call.phase.tag) call.key }) refl refl tt refl))
+took_goes live among rule call message new (was_stale epoch own is) = subst (MoveGoes live call) (sym is) (ends (among.key _) (among.tag _) refl (sends_look never (next_tag call.phase.tag) call.key))
 took_goes live among rule call message new (arrived tag key epoch old target frozen seeded at got c is) = subst (MoveGoes live call) (sym is) (stays (among.key _) (among.tag _) refl)
 
 pub move_goes_on : (live : Moving → LiveCall) → IsMoveAmong live → (rule : Rule) (call : Moving) (message : Message) → GoesOn never call.phase.tag call.key (live (step rule call message).state) (step rule call message).out
@@ -140,29 +135,20 @@ sends_requests May tag key posts sends post h =
 sends_opens : (strongly : Bool) (ticket : Stamp) (tag : Tag) (key : KeyId) (taken : Taken) → tag_of_call taken.state ≡ tag → key_of_call taken.state ≡ key → SendsOne (is_drawn ticket) tag key taken.out.posts → Opens strongly ticket tag key taken
 sends_opens strongly ticket tag key taken t k sends = record { tag_is = t; key_is = k; requests = sends_requests (is_drawn ticket) tag key taken.out.posts sends; one = λ _. sends }
 
-look_opens : (strongly : Bool) (ticket : Stamp) (tag : Tag) (key : KeyId) (taken : Taken) → tag_of_call taken.state ≡ tag → key_of_call taken.state ≡ key → taken.out.posts ≡ record { to = to.Directory; message = m.Lookup tag key } ∷ [] → Opens strongly ticket tag key taken
-look_opens strongly ticket tag key taken t k posts =
-    sends_opens strongly ticket tag key taken t k (subst (SendsOne (is_drawn ticket) tag key) (sym posts) (sends_only (is_drawn ticket) tag key (record { to = to.Directory; message = m.Lookup tag key }) refl refl tt refl))
-
 -- whatever call begins
-pub call_opens : (strongly : Bool) (tag : Tag) (at : DcId) (view : View) (ticket : Stamp) (work : Work) (taken : Taken) → opened_call strongly tag at view ticket work ≡ Some taken → Opens strongly ticket tag view.key taken
-call_opens strongly tag at view ticket work taken e = by (opens strongly tag at view ticket work taken e)
-  where
-    strong_opens : (asked : StrongWork) (member : Quorum) (drawn : Stamp) → ((value : List ℕ) → asked ≡ ToWrite value → drawn ≡ ticket) → Opens strongly ticket tag view.key (of_strong (strong.opened_with asked tag at view.key (leg_under view member drawn)))
-    strong_opens asked member drawn is = sends_opens strongly ticket tag view.key _ refl refl (first_sends (is_drawn ticket) asked view.key tag (leg_under view member drawn) is)
+opens_so : (tag : Tag) (at : DcId) (view : View) (ticket : Stamp) (strongly : Bool) (work : Work) (taken : Taken) → OpensAs tag at view ticket strongly work taken → Opens strongly ticket tag view.key taken
+opens_so tag at view ticket strongly work taken (opens_read member of) = sends_opens true ticket tag view.key _ refl refl (first_sends (is_drawn ticket) ToRead view.key tag (leg_under view member stamp_zero) (λ value e. absurd (cc)))
+opens_so tag at view ticket strongly work taken (opens_write member value of) = sends_opens true ticket tag view.key _ refl refl (first_sends (is_drawn ticket) (ToWrite value) view.key tag (leg_under view member ticket) (λ _ _. refl))
+opens_so tag at view ticket strongly work taken opens_move = sends_opens true ticket tag view.key _ refl refl (sends_look (is_drawn ticket) tag view.key)
+opens_so tag at view ticket strongly work taken opens_get = sends_opens false ticket tag view.key _ refl refl (sends_each (is_drawn ticket) tag view.key (m.Read tag view.key view.epoch) (eventual.asked_of view at.0 false) refl refl tt refl)
+opens_so tag at view ticket strongly work taken opens_get_any = sends_opens false ticket tag view.key _ refl refl (sends_each (is_drawn ticket) tag view.key (m.Read tag view.key view.epoch) (eventual.asked_of view at.0 true) refl refl tt refl)
+opens_so tag at view ticket strongly work taken (opens_put value) = record {
+  tag_is = refl;
+  key_is = refl;
+  requests = each_map (λ (x : Message). (tag_of x ≡ tag) × (request_key x ≡ Some view.key)) (eventual.push_to tag at.0 view ticket value) (λ d. (refl, refl)) (directs_below view.policy at.0 16);
+  one = λ h. absurd (cc);
+}
+opens_so tag at view ticket strongly work taken opens_eventual_move = sends_opens false ticket tag view.key _ refl refl (sends_look (is_drawn ticket) tag view.key)
 
-    by : OpensAs strongly tag at view ticket work taken → Opens strongly ticket tag view.key taken
-    by (opens_read member strong_is work_is of is) = subst (Opens strongly ticket tag view.key) (sym is) (strong_opens ToRead member stamp_zero (λ value e. absurd (cc)))
-    by (opens_write member value strong_is work_is of is) = subst (Opens strongly ticket tag view.key) (sym is) (strong_opens (ToWrite value) member ticket (λ value e. refl))
-    by (opens_move strong_is work_is is) = subst (Opens strongly ticket tag view.key) (sym is) (look_opens strongly ticket tag view.key _ refl refl refl)
-    by (opens_eventual_move strong_is _ is) = subst (Opens strongly ticket tag view.key) (sym is) (look_opens strongly ticket tag view.key _ refl refl refl)
-    by (opens_get any strong_is _ is) =
-        subst (Opens strongly ticket tag view.key) (sym is)
-        (sends_opens strongly ticket tag view.key _ refl refl (sends_each (is_drawn ticket) tag view.key (m.Read tag view.key view.epoch) (eventual.asked_of view at.0 any) refl refl tt refl))
-    by (opens_put value strong_is _ is) =
-        subst (Opens strongly ticket tag view.key) (sym is) (record {
-          tag_is = refl;
-          key_is = refl;
-          requests = each_map (λ (x : Message). (tag_of x ≡ tag) × (request_key x ≡ Some view.key)) (eventual.push_to tag at.0 view ticket value) (λ d. (refl, refl)) (directs_below view.policy at.0 16);
-          one = λ h. absurd (cc);
-        })
+pub call_opens : (strongly : Bool) (tag : Tag) (at : DcId) (view : View) (ticket : Stamp) (work : Work) (taken : Taken) → opened_call strongly tag at view ticket work ≡ Some taken → Opens strongly ticket tag view.key taken
+call_opens strongly tag at view ticket work taken e = opens_so tag at view ticket strongly work taken (opens strongly tag at view ticket work taken e)

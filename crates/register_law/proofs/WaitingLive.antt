@@ -1,18 +1,17 @@
 -- Whatever was begun, and has no end, lives; and what lives lives on, unless the event marks its end.
 use Rattle.std.proofs.Common.{◌≡◌, ℕ, [], ◌∷◌, ◌++◌, refl, sym, ap, ◌∙◌, subst, arith, Option, Some, None, Contains, inl, inr, Bool, true, false, List, if◌then◌else◌}
-use Rattle.register_law.proofs.Words.{StrongWork, Call, Stamp, Step, tag_of, Message, Reply, View, Tag, counted, Next, Wait, CallState, Handle, key_of_call, tag_of_call, take, learned, proxy_at, view_at, Happening, end_marks, handle_in, ticket_marks, LiveCall, Strong, CallTook, Happened, IsWork, IsLiveAt, IsKindOf, DcId, KeyId, same_handle, item_at, with_item, EndsWith, Mark, Work, Taken, first_tag, Proxy, Store, is_strong_key, Started, next_call, IsLiveCall, OpenCallsLive, Contains-append_right, Contains-append_left, Contains-append_cases, Work as Asked, Store as World, none_among, is_register_work}
+use Rattle.register_law.proofs.Words.{StrongWork, Call, Stamp, Step, tag_of, Message, Reply, View, Tag, counted, Next, Wait, CallState, Handle, key_of_call, tag_of_call, take, learned, proxy_at, view_at, Happening, end_marks, handle_in, ticket_marks, LiveCall, Strong, CallTook, Happened, IsWork, IsLiveAt, IsKindOf, DcId, KeyId, same_handle, item_at, with_item, EndsWith, Mark, Work, Taken, Proxy, Store, Started, next_call, IsLiveCall, OpenCallsLive, Contains-append_right, Contains-append_left, Contains-append_cases, Work as Asked, Store as World}
 use Rattle.wire_msg.specs.declared.outputs.Reply.TheVariants as r
 use Rattle.strong_proxy.specs.Rule as strong
 use Rattle.run_marks.specs.declared.mark.Mark.TheVariants as k
 use Rattle.slot_pool.proofs.HistoryLemmas.{put_map}
 use Rattle.register_law.proofs.CallsOthers.{StrongStep, counts_it, ignores_it, strong_step, take_end}
-use Rattle.register_law.proofs.TagsCalls.{taken_of, proxy_is, started_opens}
+use Rattle.register_law.proofs.TagsCalls.{taken_of, proxy_is, started_opens, started_as}
 use Rattle.register_law.proofs.TagsSteps.{may_ask, take_goes_on}
 use Rattle.register_law.proofs.WaitingMeets.{same_part, Meets, untouched, takes, given_up, meets, takes_and_lives}
-use Rattle.register_law.proofs.CallsStart.{start_view}
-use Rattle.register_law.proofs.CallsRows.{opens, OpensAs, opens_read, opens_write, opens_move, opens_get, opens_put, opens_eventual_move}
+use Rattle.register_law.proofs.CallsRows.{OpensAs, opens_read}
 use Rattle.register_law.proofs.Basics.{is_itself}
-use Rattle.register_law.proofs.MarksAre.{MarksAre, unmarked, of_no_call, of_refused, of_start, of_call, of_give_up, marks_are, start_ticket, in_one, in_two, in_start_marks, moved, other_call, end_begins, call_begins}
+use Rattle.register_law.proofs.MarksAre.{MarksAre, marks_are, moved, MarkIs, nobodys, refused_begin, started_begin, mark_is}
 
 -- no step changes what a call does
 done_work : (next : Next) (call : CallState) → (strong.done next call).state.work ≡ call.work
@@ -76,44 +75,24 @@ started_lives s h p key work st =
     (is_itself st.handle.slot st.handle.generation) (put_map (proxy_at s p).calls st.handle st.taken.state st.free st.handle)))
 
 -- what a call that begins is
-kind_opened : (strong : Bool) (tag : Tag) (at : DcId) (view : View) (ticket : Stamp) (asked : Work) (taken : Taken) → OpensAs strong tag at view ticket asked taken → IsKindOf taken.state asked
-kind_opened strong tag at view ticket asked taken (opens_read _ _ asked_is _ is) = subst (λ (x : Taken). IsKindOf x.state asked) (sym is) asked_is
-kind_opened strong tag at view ticket asked taken (opens_write _ _ _ asked_is _ is) = subst (λ (x : Taken). IsKindOf x.state asked) (sym is) asked_is
-kind_opened strong tag at view ticket asked taken (opens_move _ asked_is is) = subst (λ (x : Taken). IsKindOf x.state asked) (sym is) (ap is_register_work asked_is)
-kind_opened strong tag at view ticket asked taken (opens_get _ _ (inl asked_is) is) = subst (λ (x : Taken). IsKindOf x.state asked) (sym is) (ap is_register_work asked_is)
-kind_opened strong tag at view ticket asked taken (opens_get _ _ (inr asked_is) is) = subst (λ (x : Taken). IsKindOf x.state asked) (sym is) (ap is_register_work asked_is)
-kind_opened strong tag at view ticket asked taken (opens_put _ _ asked_is is) = subst (λ (x : Taken). IsKindOf x.state asked) (sym is) (ap is_register_work asked_is)
-kind_opened strong tag at view ticket asked taken (opens_eventual_move _ asked_is is) = subst (λ (x : Taken). IsKindOf x.state asked) (sym is) (ap is_register_work asked_is)
-
-same_begin : (call other : Call) (key at : KeyId) (work asked : Work) → k.Begin call key work ≡ k.Begin other at asked → (other ≡ call) × (asked ≡ work)
-same_begin call other key at work asked e = (cc, cc)
+kind_opened : (tag : Tag) (at : DcId) (view : View) (ticket : Stamp) (strong : Bool) (asked : Work) (taken : Taken) → OpensAs tag at view ticket strong asked taken → IsKindOf taken.state asked
+kind_opened tag at view ticket strong asked taken (opens_read member of) = refl
+kind_opened tag at view ticket strong asked taken _ = refl
 
 -- what an event begins lives after it, or has its end there too
 begun_lives : (s : Store) (h : Happening) → MarksAre s h → (call : Call) (at : KeyId) (work : Work) → Contains h.marks (k.Begin call at work) → ((reply : Reply) → EndsWith h.marks call reply → ⊥) → IsLiveCall h.store call work
-begun_lives s h (unmarked is) call at work c goes_on = absurd (none_among (k.Begin call at work) (moved h.marks [] (k.Begin call at work) is c))
-begun_lives s h (of_no_call mark none is) call at work c goes_on =
-    in_one (IsLiveCall h.store call work) mark (k.Begin call at work) (λ same. other_call (IsLiveCall h.store call work) (k.Begin call at work) mark call refl same none) (moved h.marks (mark ∷ []) (k.Begin call at work) is c)
-begun_lives s h (of_refused p key asked reply lt dead _ is) call at work c goes_on =
-    in_two (IsLiveCall h.store call work) (k.Begin (next_call s p) key asked) (k.End (next_call s p) reply) (k.Begin call at work) (λ same. refused (same_begin call (next_call s p) at key work asked same).0) (λ same. let e = same in absurd (cc))
-    (moved h.marks _ (k.Begin call at work) is c)
+begun_lives s h are call at work c goes_on = by call at work (mark_is s h are (k.Begin call at work) c) goes_on
   where
-    refused : next_call s p ≡ call → IsLiveCall h.store call work
-    refused e = absurd (goes_on reply (moved _ h.marks (k.End call reply) (sym is) (subst (λ (x : Call). Contains (k.Begin (next_call s p) key asked ∷ k.End (next_call s p) reply ∷ []) (k.End x reply)) e (1, omega arith, refl))))
-begun_lives s h (of_start p key asked st is) call at work c goes_on =
-    in_start_marks (IsLiveCall h.store call work) (next_call s p) key asked (start_ticket s p key) (k.Begin call at work) (λ same. begins (same_begin call (next_call s p) at key work asked same).0 (same_begin call (next_call s p) at key work asked same).1) (λ same. let e = same in absurd (cc))
-    (moved h.marks _ (k.Begin call at work) is c)
-  where
-    begins : next_call s p ≡ call → asked ≡ work → IsLiveCall h.store call work
-    begins e f = subst (IsLiveCall h.store call) f (subst (λ (x : Call). IsLiveCall h.store x asked) e (record {
+    by : (one : Call) (on : KeyId) (asked : Work) → MarkIs s h (k.Begin one on asked) → ((reply : Reply) → EndsWith h.marks one reply → ⊥) → IsLiveCall h.store one asked
+    by one on asked (nobodys _ none) goes_on = absurd (cc)
+    by one on asked (refused_begin p key what reply is) goes_on = absurd (goes_on reply (moved _ h.marks (k.End (next_call s p) reply) (sym is) (1, omega arith, refl)))
+    by one on asked (started_begin p key what st is) goes_on = record {
       handle = st.handle;
       live = st.taken.state;
-      is = started_lives s h p key asked st;
-      of = ap (λ (t : Tag). t.call) (started_opens s p key asked h st).tag_is;
-      kind = kind_opened _ _ _ _ _ asked st.taken (opens (is_strong_key s key) (first_tag (next_call s p) st.handle) (proxy_at s p).at (start_view s p key) (start_ticket s p key) asked st.taken st.first);
-    }))
-begun_lives s h (of_call p message live took is) call at work c goes_on =
-    absurd (call_begins (tag_of message).call (taken_of s p message live).out.ticket (taken_of s p message live).out.end call at work (moved h.marks _ (k.Begin call at work) is c))
-begun_lives s h (of_give_up p live given is) call at work c goes_on = absurd (end_begins (tag_of_call live).call r.GivenUp call at work (moved h.marks _ (k.Begin call at work) is c))
+      is = started_lives s h p key what st;
+      of = ap (λ (t : Tag). t.call) (started_opens s p key what h st).tag_is;
+      kind = kind_opened _ _ _ _ _ what st.taken (started_as s p key what h st);
+    }
 
 -- every event keeps it
 pub open_calls_live_after : (s : Store) (marks : List Mark) (h : Happening) → Happened s h → OpenCallsLive s marks → OpenCallsLive h.store (marks ++ h.marks)

@@ -1,17 +1,15 @@
 -- After every event each live read or write of the key waits: it leaves its phase once that is decided, or as it is given up.
 use Rattle.std.proofs.Common.{◌≡◌, ℕ, Bool, refl, sym, ap, ◌∙◌, subst, None, true, false, if◌then◌else◌, option_map, Option, Some}
-use Rattle.register_law.proofs.Words.{DcId, KeyId, stamp_zero, Stamp, Step, Message, View, Tag, counted, best_stamp, done, leg_under, next_of, opened_with, Next, Enter, Look, Repair, Value, Wait, Stage, Ended, First, CallState, ToRead, ToWrite, Taken, first_tag, proxy_at, Happening, handle_in, is_strong_key, LiveCall, Strong, CallTook, Happened, next_call, Ghost, noted_of, Inv, HasPolicy, IsStrongRequest, LiveCallsWait, Waits, CallBacked, StrongWork as Work, StoreNext as Store, Work as Asked, Store as World, Reply, next_tag, Found, is_counted, value_reply, Fenced, Moved, NumbersOut, Outside, Stored, Unsure, Handle, run_of, opening, first_ghost, history, IsLiveAt, IsDecided}
+use Rattle.register_law.proofs.Words.{DcId, KeyId, Stamp, Step, Message, View, Tag, counted, best_stamp, done, next_of, Next, Enter, Look, Repair, Value, Wait, Stage, Ended, First, CallState, Taken, Happening, handle_in, LiveCall, Strong, CallTook, Happened, Ghost, noted_of, Inv, HasPolicy, IsStrongRequest, LiveCallsWait, Waits, CallBacked, StrongWork as Work, StoreNext as Store, Work as Asked, Store as World, Reply, next_tag, Found, is_counted, value_reply, Fenced, Moved, NumbersOut, Outside, Stored, Unsure, Handle, run_of, opening, first_ghost, history, IsLiveAt, IsDecided}
 use Rattle.strong_proxy.specs.Rule.{step}
 use Rattle.strong_proxy.proofs.Endings.{progress_after-key}
 use Rattle.strong_proxy.specs.Rule as strong
 use Rattle.register_law.proofs.Next.{RestsOn, rests_on}
 use Rattle.register_law.proofs.CallsOthers.{StrongStep, counts_it, ignores_it, strong_step}
-use Rattle.register_law.proofs.MarksAre.{start_ticket}
-use Rattle.register_law.proofs.CallsStart.{start_view, IsOther, IsOpened, Opens, opens_read, opens_write, opens_other, opens}
 use Rattle.register_law.proofs.CallsLive.{view_by, seen_by}
-use Rattle.register_law.proofs.TagsCalls.{taken_of, LiveIs, was_live, begins, went_on, live_after}
+use Rattle.register_law.proofs.TagsCalls.{taken_of, LiveIs, was_live, begins, went_on, live_after, started_as}
 use Rattle.register_law.proofs.CallsAnswers.{PhaseRequest}
-use Rattle.register_law.proofs.CallsStrong.{never_silent, no_best, none_not_some, TookCounted, took_counted, done_key, strong_is}
+use Rattle.register_law.proofs.CallsStrong.{never_silent, no_best, TookCounted, took_counted, done_key, strong_is}
 use Rattle.register_law.proofs.WaitingPhase.{new_waits, still_waits, quorum_decides, loss_decides, at_first, at_second, at_look, answer_decides, over_decides, looking_never_waits, open_at}
 use Rattle.register_law.specs.WaitingPhases.{goes_on, ends, Counted, stays, decides, Passes, unchanged, counts, is_given_up, PhasesLast, AnswersCount}
 use Rattle.register_law.proofs.Happened.{happened}
@@ -19,6 +17,7 @@ use Rattle.register_law.proofs.MovesStep.{counted_tag, counted_is_own}
 use Rattle.register_law.proofs.Induction.{holds_at_end}
 use Rattle.register_law.proofs.WaitingMeets.{under, tags_are_handles, takes_it, Meets, untouched, takes, given_up, meets, takes_and_lives}
 use Rattle.register_law.proofs.WaitingLive.{end_is_marked}
+use Rattle.register_law.proofs.CallsStart.{BeginsAs, begins_as}
 
 pub not_ended : (work : Work) (stage : Stage) (call : CallState) (request : Message) → IsStrongRequest work stage call request → stage ≡ Ended → ⊥
 not_ended work Ended call request h is = h
@@ -42,7 +41,7 @@ goes key s g z n now view seen Repair inv after backed asked end rests policy = 
 goes key s g z n now view seen Store inv after backed asked end rests policy = new_waits key z n (done Store now).state after.openings policy refl refl (λ e. absurd (cc))
 goes key s g z n now view seen Look inv after backed asked end rests policy = tt
 goes key s g z n now view seen (Enter leg) inv after backed asked end rests policy = new_waits key z n (done (Enter leg) now).state after.openings policy refl refl (λ e. absurd (cc))
-goes key s g z n now view seen next inv after backed asked end rests policy = none_not_some _ _ end
+goes key s g z n now view seen next inv after backed asked end rests policy = absurd (cc)
 
 -- the step of a call that lives on
 step_waits : (key : KeyId) (s : World) (g : Ghost) (h : Happening) (p : ℕ) (message : Message) (was : CallState) (made : (Step CallState)) → Happened s h → Inv key s g → Inv key h.store (noted_of key s h g) → LiveCallsWait key s
@@ -58,16 +57,9 @@ step_waits key s g h p message was made is inv after all took (counts_it count o
 step_waits key s g h p message was made is inv after all took (ignores_it made_is) end at_key policy =
     subst (λ (x : (Step CallState)). Waits x.state.progress.stage x.state.progress) (sym made_is) (all p (handle_in message) was (record { live = took.live; at_key = at_key }))
 
-opened_waits : (key : KeyId) (z : World) (n : Ghost) (work : Work) (ticket : Stamp) (tag : Tag) (at : DcId) (view : View) (taken : Taken) (call : CallState) → Inv key z n → IsOpened work ticket tag at view taken → Strong call ≡ taken.state → HasPolicy key z n call → Waits call.progress.stage call.progress
-opened_waits key z n work ticket tag at view taken call after o e policy =
-    let same : call ≡ (opened_with work tag at view.key (leg_under view o.member ticket)).state = strong_is call (opened_with work tag at view.key (leg_under view o.member ticket)).state (e ∙ ap (λ (t : Taken). t.state) o.is) in
-    new_waits key z n call after.openings policy (ap (λ (c : CallState). c.progress.phase.good) same) (ap (λ (c : CallState). c.progress.phase.bad) same) (λ ended. (let first : call.progress.stage ≡ First = ap (λ (c : CallState). c.progress.stage) same in cc))
-
-begun_waits : (key : KeyId) (z : World) (n : Ghost) (strong : Bool) (tag : Tag) (at : DcId) (view : View) (ticket : Stamp) (asked : Asked) (taken : Taken) (call : CallState) → Inv key z n → Opens strong tag at view ticket asked taken → Strong call ≡ taken.state → HasPolicy key z n call
-    → Waits call.progress.stage call.progress
-begun_waits key z n strong tag at view ticket asked taken call after (opens_other other posts) e policy = absurd (subst IsOther (sym e) other)
-begun_waits key z n strong tag at view ticket asked taken call after (opens_read is asked_is o) e policy = opened_waits key z n ToRead stamp_zero tag at view taken call after o e policy
-begun_waits key z n strong tag at view ticket asked taken call after (opens_write value is asked_is o) e policy = opened_waits key z n (ToWrite value) ticket tag at view taken call after o e policy
+begun_waits : (key : KeyId) (z : World) (n : Ghost) (tag : Tag) (at : DcId) (view : View) (ticket : Stamp) (asked : Asked) (taken : Taken) (call : CallState) → Inv key z n → BeginsAs tag at view ticket asked taken call → HasPolicy key z n call → Waits call.progress.stage call.progress
+begun_waits key z n tag at view ticket asked taken call after o policy =
+    new_waits key z n call after.openings policy (ap (λ (c : CallState). c.progress.phase.good) o.is) (ap (λ (c : CallState). c.progress.phase.bad) o.is) (λ ended. (let first : call.progress.stage ≡ First = ap (λ (c : CallState). c.progress.stage) o.is in cc))
 
 pub live_calls_wait_after : (key : KeyId) (s : World) (g : Ghost) (h : Happening) → Happened s h → Inv key s g → Inv key h.store (noted_of key s h g) → LiveCallsWait key s → LiveCallsWait key h.store
 live_calls_wait_after key s g h is inv after all p handle call live = by (live_after s h is p handle (Strong call) live.live)
@@ -87,8 +79,7 @@ live_calls_wait_after key s g h is inv after all p handle call live = by (live_a
     by : LiveIs s h p handle (Strong call) → Waits call.progress.stage call.progress
     by (was_live old) = all p handle call (record { live = old; at_key = live.at_key })
     by (begins at asked st e f) =
-        begun_waits key h.store (noted_of key s h g) (is_strong_key s at) (first_tag (next_call s p) st.handle) (proxy_at s p).at (start_view s p at) (start_ticket s p at) asked st.taken call after
-        (opens (is_strong_key s at) (first_tag (next_call s p) st.handle) (proxy_at s p).at (start_view s p at) (start_ticket s p at) asked st.taken st.first) f policy
+        begun_waits key h.store (noted_of key s h g) _ _ _ _ asked st.taken call after (begins_as _ _ _ _ _ asked st.taken call (started_as s p at asked h st) f) policy
     by (went_on message was t e f end) = took message was t f end
 
 -- ---- a read or a write counts each answer that is to count, and leaves its phase only once that is decided, or as it is given up

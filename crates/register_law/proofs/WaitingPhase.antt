@@ -1,19 +1,16 @@
 -- A phase that waits is open: neither enough good answers nor too many refusals.
-use Rattle.std.proofs.Common.{◌≡◌, ℕ, ◌+◌, Bool, true, false, refl, sym, subst, ◌*◌, ◌<◌, ◌≤◌, ap, ◌∙◌, arith, if◌then◌else◌, ◌==◌, length, nat_lt, Option, Some, None, nat_le}
-use Rattle.register_law.proofs.Words.{centres_of, member_of, Quorum, Stamp, View, has_quorum, is_lost, enter, go_over, leg_under, next_ticket, verdict_at, Enter, Look, Moved, NumbersOut, Wait, Progress, Stage, Ended, First, Looking, Second, ToRead, ToWrite, Waits, IsDecided, centres_below, has, no_centre, IsQuorumPolicy, faults_of, DcSet, KeyId, Policy, Found, best_stamp, Leg, CallState, Store, policy_of, OpeningsAreBacked, Ghost, FirstCounted, HasPolicy, IsAskedOf, StrongCounted, range_with_len, common_steps, StrongWork as Work, count-no_centre, count-meet_left, count-meet_right}
+use Rattle.std.proofs.Common.{◌≡◌, ℕ, ◌+◌, Bool, true, false, refl, sym, subst, ◌*◌, ◌≤◌, ap, ◌∙◌, arith, if◌then◌else◌, ◌==◌, length, nat_lt, Option, Some, None, ltb-false, leb-true, ltb-true, leb-false, subst₂}
+use Rattle.register_law.proofs.Words.{centres_of, member_of, Quorum, Stamp, View, has_quorum, is_lost, enter, go_over, leg_under, next_ticket, verdict_at, Enter, Look, Moved, NumbersOut, Wait, Progress, Stage, Ended, First, Looking, Second, ToRead, ToWrite, Waits, IsDecided, centres_below, has, no_centre, IsQuorumPolicy, faults_of, DcSet, KeyId, Policy, Found, best_stamp, Leg, CallState, Store, policy_of, OpeningsAreBacked, Ghost, FirstCounted, HasPolicy, IsAskedOf, StrongCounted, range_with_len, StrongWork as Work, count-no_centre}
 use Rattle.register_law.specs.WaitingPhases.{IsDecidedBy, by_good, by_bad, IsOpen}
-use Rattle.register_law.proofs.Next.{AnswersWhen, at_mark, repaired, GoesOver, over_first, over_repair, over_look, is_many, WaitsWhen, undecided, nothing_found, over}
-use Rattle.register_law.proofs.OpeningsCurrent.{at_most_is}
-use Rattle.register_law.proofs.Basics.{less_is}
-use Rattle.register_law.specs.Live.{NoneCounted}
+use Rattle.register_law.proofs.Next.{AnswersWhen, at_mark, repaired, GoesOver, over_first, over_repair, over_look, WaitsWhen, undecided, nothing_found, over}
 use Rattle.register_law.specs.Waiting.{IsUndecided, AsksQuorum}
-use Rattle.register_law.proofs.Quorums.{count_mono, member_is_in, faults_are_tolerance, members_meet}
+use Rattle.register_law.proofs.Quorums.{count_mono, member_is_in, reads_many, writes_many}
 
 pub quorum_decides : (p : Progress) → has_quorum p.leg.f p.phase ≡ true → IsDecidedBy p.leg.f p.phase
-quorum_decides p h = by_good (at_most_is (length (centres_of p.phase.asked)) (length (centres_of p.phase.good) + p.leg.f) h)
+quorum_decides p h = by_good (leb-true (length (centres_of p.phase.asked)) (length (centres_of p.phase.good) + p.leg.f) h)
 
 pub loss_decides : (p : Progress) → is_lost p.leg.f p.phase ≡ true → IsDecidedBy p.leg.f p.phase
-loss_decides p h = by_bad (less_is p.leg.f (length (centres_of p.phase.bad)) h)
+loss_decides p h = by_bad (ltb-true p.leg.f (length (centres_of p.phase.bad)) h)
 
 pub at_first : (stage : Stage) (p : Progress) → stage ≡ First → IsDecidedBy p.leg.f p.phase → IsDecided stage p
 at_first stage p is d = subst (λ (x : Stage). IsDecided x p) (sym is) d
@@ -64,19 +61,6 @@ open_at stage p waits looks = waits
 
 -- ---- a phase in which nothing counted is undecided, and a call whose answers decide nothing waits
 
--- more than f replicas are asked
-reads_many : (policy : Policy) (member : Quorum) (at : ℕ) → IsQuorumPolicy policy → member_of policy at ≡ Some member → 2 * faults_of policy + 1 ≤ length (centres_of member.read)
-reads_many policy member at h is =
-    let m = (members_meet policy member member h (member_is_in policy at member is) (member_is_in policy at member is)).0 in
-    let c = count-meet_left member.read member.write in
-    omega (arith, m, c)
-
-writes_many : (policy : Policy) (member : Quorum) (at : ℕ) → IsQuorumPolicy policy → member_of policy at ≡ Some member → 2 * faults_of policy + 1 ≤ length (centres_of member.write)
-writes_many policy member at h is =
-    let m = (members_meet policy member member h (member_is_in policy at member is) (member_is_in policy at member is)).0 in
-    let c = count-meet_right member.read member.write in
-    omega (arith, m, c)
-
 -- the call is in a phase that asks replicas
 abbrev pub Asks : Stage → Type 0
 Asks First = Unit {0}
@@ -96,7 +80,7 @@ pub asks_quorum : (key : KeyId) (s : Store) (g : Ghost) (call : CallState) → H
 asks_quorum key s g call p = record {
   member = p.member;
   is_member = p.is_member;
-  tolerance = ap (λ (l : Leg). l.f) p.leg ∙ faults_are_tolerance (policy_of s key call.progress.leg.epoch);
+  tolerance = ap (λ (l : Leg). l.f) p.leg;
   asked = p.asked;
 }
 
@@ -106,10 +90,11 @@ asks_many key s g call openings p asks =
     let policy : Policy = policy_of s key call.progress.leg.epoch in
     let range = openings.published call.progress.leg.epoch p.opened in
     let sound : IsQuorumPolicy (policy_of s key call.progress.leg.epoch) = openings.policies_quorum call.progress.leg.epoch range.0 range.1 in
+    let there = member_is_in (policy_of s key call.progress.leg.epoch) call.progress.at.0 p.member p.is_member in
     let f = (asks_quorum key s g call p).tolerance in
     let many : 2 * faults_of (policy_of s key call.progress.leg.epoch) + 1 ≤ length (centres_of call.progress.phase.asked) =
     asked_many call.work call.progress.stage p.member call.progress.phase.asked (2 * faults_of (policy_of s key call.progress.leg.epoch) + 1) asks p.asked
-    (reads_many (policy_of s key call.progress.leg.epoch) p.member call.progress.at.0 sound p.is_member) (writes_many (policy_of s key call.progress.leg.epoch) p.member call.progress.at.0 sound p.is_member) in
+    (reads_many (policy_of s key call.progress.leg.epoch) p.member sound there) (writes_many (policy_of s key call.progress.leg.epoch) p.member sound there) in
     subst (λ (n : ℕ). 2 * n + 1 ≤ length (centres_of call.progress.phase.asked)) (sym f) many
 
 waits_at : (stage : Stage) (p : Progress) → (Asks stage → IsUndecided p.leg.f p.phase) → (stage ≡ Ended → ⊥) → Waits stage p
@@ -136,27 +121,20 @@ none_counts s none =
     let z = count-no_centre in
     omega arith
 
-few : (a b : ℕ) → nat_le a b ≡ false → b < a
-few a b h = grind (arith, common_steps)
-
 no_stamp : (best : Option Found) → best_stamp best ≡ None → best ≡ None
 no_stamp None is = refl
 no_stamp (Some found) is = absurd (cc)
-
-first_none : (s : Store) (stage : Stage) (work : Work) (call : CallState) → stage ≡ First → work ≡ ToRead → call.best ≡ None → StrongCounted s work stage call → NoneCounted call.progress.phase
-first_none s First ToRead call a b none counted = (subst (FirstCounted s call) none counted).0
-first_none s stage work call a b none counted = absurd (cc)
 
 -- a call that does nothing waits
 pub still_waits : (key : KeyId) (s : Store) (g : Ghost) (call : CallState) → OpeningsAreBacked key s g → HasPolicy key s g call → StrongCounted s call.work call.progress.stage call → WaitsWhen call.progress.stage call.work (best_stamp call.best) call.progress → (call.progress.stage ≡ Ended → ⊥)
     → Waits call.progress.stage call.progress
 still_waits key s g call openings p counted (undecided quorum lost) goes_on =
     waits_at call.progress.stage call.progress
-    (λ _. record { few_good = few (length (centres_of call.progress.phase.asked)) (length (centres_of call.progress.phase.good) + call.progress.leg.f) quorum; few_bad = is_many call.progress.leg.f (length (centres_of call.progress.phase.bad)) lost })
+    (λ _. record { few_good = leb-false (length (centres_of call.progress.phase.asked)) (length (centres_of call.progress.phase.good) + call.progress.leg.f) quorum; few_bad = ltb-false call.progress.leg.f (length (centres_of call.progress.phase.bad)) lost })
     goes_on
 still_waits key s g call openings p counted (nothing_found first reads quorum none) goes_on =
     let many = asks_many key s g call openings p (subst Asks (sym first) tt) in
-    let zero_good = none_counts call.progress.phase.good (first_none s call.progress.stage call.work call first reads (no_stamp call.best none) counted) in
-    let le = at_most_is (length (centres_of call.progress.phase.asked)) (length (centres_of call.progress.phase.good) + call.progress.leg.f) quorum in
+    let zero_good = none_counts call.progress.phase.good (subst (FirstCounted s call) (no_stamp call.best none) (subst₂ (λ (w : Work) (x : Stage). StrongCounted s w x call) reads first counted)).0 in
+    let le = leb-true (length (centres_of call.progress.phase.asked)) (length (centres_of call.progress.phase.good) + call.progress.leg.f) quorum in
     absurd (omega arith)
 still_waits key s g call openings p counted (over is) goes_on = absurd (goes_on is)

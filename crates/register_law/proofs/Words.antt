@@ -19,7 +19,10 @@ pub use Rattle.span_base.specs.declared.policy.Policy.{Policy}
 pub use Rattle.span_base.specs.declared.policy.Policy.TheVariants.{Direct, Relay}
 pub use Rattle.span_base.specs.declared.policy.Quorum.{Quorum}
 pub use Rattle.span_base.specs.declared.words.What.TheVariants.{Epochs, FrameBytes, Messages}
-pub use Rattle.span_base.proofs.Sets.{count-meet_left, count-meet_right, count-no_centre, has-below, has-insert_other, has-insert_same, has-meet, has-no_centre}
+pub use Rattle.span_base.proofs.Distinct.{eq_or_not}
+pub use Rattle.span_base.proofs.KeyIds.{same_key}
+pub use Rattle.span_base.proofs.Sets.{and_left, and_right, count-meet_left, count-meet_right, count-no_centre, has-below, has-insert_cases, has-insert_other, has-insert_same, has-insert_stays, has-meet, has-no_centre, none_in}
+pub use Rattle.ticket_rules.proofs.StampOrder.{IsAtMost-refl}
 pub use Rattle.ticket_rules.specs.Stamp.{IsAbove, IsAtMost, grants, greater, stamp_cmp, stamp_zero, stores}
 pub use Rattle.ticket_rules.specs.declared.stamp.Stamp.{Stamp}
 pub use Rattle.wire_msg.specs.Outputs.{Step}
