@@ -28,7 +28,7 @@ leg_past_after key s g h is inv leg d there = by (legs_are key s g h leg there)
         let le = was.1 in
         let more = up.frozen in
         (IsAtMost-trans (leg.snap d).version (kept_of s d key).version (kept_of h.store d key).version was.0 up.version, omega arith)
-    by (inr new) = subst (λ (x : ℕ → Kept). IsAtMost (x d).version (kept_of h.store d key).version × ((x d).frozen ≤ (kept_of h.store d key).frozen)) (sym new.begins.snap) (up.version, up.frozen)
+    by (inr new) = subst (λ (x : ℕ → Kept). IsAtMost (x d).version (kept_of h.store d key).version × ((x d).frozen ≤ (kept_of h.store d key).frozen)) (ap (λ (x : Leg). x.snap) (sym new.begins.is)) (up.version, up.frozen)
 
 -- an answer in a leg's first phase was sent before, or a replica answers the leg's request now; the leg was there
 pub data LegAnswer (key : KeyId) (s : Store) (g : Ghost) (h : Happening) (leg : Leg) (message : Message) : Type 0 where

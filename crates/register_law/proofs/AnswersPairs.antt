@@ -1,12 +1,12 @@
 -- Every event keeps what the answers of replicas tell.
-use Rattle.std.proofs.Common.{◌≡◌, ℕ, ◌≤◌, Bool, true, false, List, refl, sym, ap, subst, arith, nat_lt, nat_le, max, ◌&&◌, if◌then◌else◌}
+use Rattle.std.proofs.Common.{◌≡◌, ℕ, ◌≤◌, Bool, true, false, List, refl, sym, ap, subst, arith, nat_lt, nat_le, max, ◌&&◌, if◌then◌else◌, Some}
 use Rattle.std.proofs.lemmas.Bool.{lt-ltb, le-ltb, ltb-false, le-leb}
-use Rattle.register_law.proofs.Words.{KeyId, IsAtMost, Stamp, Tag, Kept, Store, kept_of, Happening, Happened, Ghost, noted_of, Inv, Grows, IsKept, IsKnown, WasSent, version_before, IsAtMost-trans, IsAtMost-refl}
+use Rattle.register_law.proofs.Words.{KeyId, IsAtMost, Stamp, Tag, Kept, Store, kept_of, Happening, Happened, Ghost, noted_of, Inv, Grows, IsKept, IsKnown, WasSent, version_before, IsAtMost-trans, IsAtMost-refl, tag_of, key_of, Message}
 use Rattle.wire_msg.specs.declared.message.Message.TheVariants as m
 use Rattle.register_law.proofs.MovesStable.{known_stays, kept_stays}
 use Rattle.register_law.proofs.Growth.{grows_by}
 use Rattle.register_law.proofs.Basics.{point_of}
-use Rattle.register_law.proofs.AnswersTold.{both_sent, now_replied, pair_is, Reaches, Shows, Froze, read_replied, freeze_replied, store_replied, repair_replied, seed_replied}
+use Rattle.register_law.proofs.AnswersTold.{both_sent, now_replied, pair_is, Reaches, Shows, Froze, read_replied, freeze_replied, store_replied, repair_replied, seed_replied, Replied}
 use Rattle.register_law.specs.Replicas.{AnswersTell}
 use Rattle.register_law.proofs.AnswersFence.{have_read_after, yes_ask_after, fence_leg_after}
 
@@ -14,32 +14,27 @@ use Rattle.register_law.proofs.AnswersFence.{have_read_after, yes_ask_after, fen
 pub reaches_before : (key : KeyId) (z : Store) (g : Ghost) (d epoch : ℕ) (stamp : Stamp) → Reaches epoch stamp (kept_of z d key) → IsAtMost stamp (version_before key z g d epoch)
 reaches_before key z g d epoch stamp r = rw (lt-ltb (kept_of z d key).frozen epoch r.open_still) r.has
 
-still : (key : KeyId) (s : Store) (g : Ghost) (h : Happening) (d epoch : ℕ) (stamp : Stamp) → Grows key s g h.store (noted_of key s h g) → IsAtMost stamp (version_before key s g d epoch) → IsAtMost stamp (version_before key h.store (noted_of key s h g) d epoch)
-still key s g h d epoch stamp grows was = IsAtMost-trans stamp (version_before key s g d epoch) (version_before key h.store (noted_of key s h g) d epoch) was (grows.before d epoch)
+-- a replica that said Yes to a request of the key has what it then had
+yes_after : (key : KeyId) (s : Store) (g : Ghost) (h : Happening) → Happened s h → Inv key s g → (request : Message) (d epoch : ℕ) (stamp : Stamp) → key_of request ≡ Some key → WasSent h.store request → WasSent h.store (m.Yes (tag_of request) (record { 0 = d }))
+    → (WasSent s request → WasSent s (m.Yes (tag_of request) (record { 0 = d })) → IsAtMost stamp (version_before key s g d epoch)) → (Replied key s h request (m.Yes (tag_of request) (record { 0 = d })) → Reaches epoch stamp (kept_of h.store d key))
+    → IsAtMost stamp (version_before key h.store (noted_of key s h g) d epoch)
+yes_after key s g h is inv request d epoch stamp at asked told was now =
+    elim (pair_is key s g h request (m.Yes (tag_of request) (record { 0 = d })) inv is asked told at refl (point_of (tag_of request) (tag_of request) refl)) as (λ _. IsAtMost stamp (version_before key h.store (noted_of key s h g) d epoch)) [
+      | both_sent a b ↦ IsAtMost-trans stamp (version_before key s g d epoch) (version_before key h.store (noted_of key s h g) d epoch) (was a b) ((grows_by key s g h is inv).before d epoch)
+      | now_replied r ↦ reaches_before key h.store (noted_of key s h g) d epoch stamp (now r)
+    ]
 
 pub yes_store_after : (key : KeyId) (s : Store) (g : Ghost) (h : Happening) → Happened s h → Inv key s g → (tag : Tag) (d : ℕ) (stamp : Stamp) (value : List ℕ) → WasSent h.store (m.Store tag key stamp value) → WasSent h.store (m.Yes tag (record { 0 = d }))
     → IsAtMost stamp (version_before key h.store (noted_of key s h g) d stamp.epoch)
-yes_store_after key s g h is inv tag d stamp value asked told =
-    elim (pair_is key s g h (m.Store tag key stamp value) (m.Yes tag (record { 0 = d })) inv is asked told refl refl (point_of tag tag refl)) as (λ _. IsAtMost stamp (version_before key h.store (noted_of key s h g) d stamp.epoch)) [
-      | both_sent a b ↦ still key s g h d stamp.epoch stamp (grows_by key s g h is inv) (inv.answers.yes_store tag d stamp value a b)
-      | now_replied r ↦ reaches_before key h.store (noted_of key s h g) d stamp.epoch stamp (store_replied key s h tag tag stamp value d r)
-    ]
+yes_store_after key s g h is inv tag d stamp value asked told = yes_after key s g h is inv (m.Store tag key stamp value) d stamp.epoch stamp refl asked told (inv.answers.yes_store tag d stamp value) (store_replied key s h tag tag stamp value d)
 
 pub yes_repair_after : (key : KeyId) (s : Store) (g : Ghost) (h : Happening) → Happened s h → Inv key s g → (tag : Tag) (d epoch : ℕ) (stamp : Stamp) (value : List ℕ) → WasSent h.store (m.Repair tag key epoch stamp value) → WasSent h.store (m.Yes tag (record { 0 = d }))
     → IsAtMost stamp (version_before key h.store (noted_of key s h g) d epoch)
-yes_repair_after key s g h is inv tag d epoch stamp value asked told =
-    elim (pair_is key s g h (m.Repair tag key epoch stamp value) (m.Yes tag (record { 0 = d })) inv is asked told refl refl (point_of tag tag refl)) as (λ _. IsAtMost stamp (version_before key h.store (noted_of key s h g) d epoch)) [
-      | both_sent a b ↦ still key s g h d epoch stamp (grows_by key s g h is inv) (inv.answers.yes_repair tag d epoch stamp value a b)
-      | now_replied r ↦ reaches_before key h.store (noted_of key s h g) d epoch stamp (repair_replied key s h tag tag epoch stamp value d r)
-    ]
+yes_repair_after key s g h is inv tag d epoch stamp value asked told = yes_after key s g h is inv (m.Repair tag key epoch stamp value) d epoch stamp refl asked told (inv.answers.yes_repair tag d epoch stamp value) (repair_replied key s h tag tag epoch stamp value d)
 
 pub yes_seed_after : (key : KeyId) (s : Store) (g : Ghost) (h : Happening) → Happened s h → Inv key s g → (tag : Tag) (d epoch : ℕ) (stamp : Stamp) (value : List ℕ) → WasSent h.store (m.Seed tag key epoch stamp value) → WasSent h.store (m.Yes tag (record { 0 = d }))
     → IsAtMost stamp (version_before key h.store (noted_of key s h g) d epoch)
-yes_seed_after key s g h is inv tag d epoch stamp value asked told =
-    elim (pair_is key s g h (m.Seed tag key epoch stamp value) (m.Yes tag (record { 0 = d })) inv is asked told refl refl (point_of tag tag refl)) as (λ _. IsAtMost stamp (version_before key h.store (noted_of key s h g) d epoch)) [
-      | both_sent a b ↦ still key s g h d epoch stamp (grows_by key s g h is inv) (inv.answers.yes_seed tag d epoch stamp value a b)
-      | now_replied r ↦ reaches_before key h.store (noted_of key s h g) d epoch stamp (seed_replied key s h tag tag epoch stamp value d r)
-    ]
+yes_seed_after key s g h is inv tag d epoch stamp value asked told = yes_after key s g h is inv (m.Seed tag key epoch stamp value) d epoch stamp refl asked told (inv.answers.yes_seed tag d epoch stamp value) (seed_replied key s h tag tag epoch stamp value d)
 
 pub before_by : (a b c : Bool) (new version fixed : Stamp) → a ≡ false → c ≡ true → (b ≡ false → IsAtMost fixed version) → IsAtMost (if a then new else (if b && c then version else fixed)) version
 before_by true b c new version fixed is reached f = absurd (cc)

@@ -1,6 +1,6 @@
 -- Every event keeps it that each leg of a call of a strong key has one request, its first one.
 use Rattle.std.proofs.Common.{◌≡◌, ◌⊎◌, inl, inr, ℕ, ◌+◌, ◌≤◌, Bool, true, false, List, [], ◌∷◌, refl, sym, ap, ◌∙◌, subst, arith, ◌==◌, if◌then◌else◌, Option, Some, None, IsSome, Contains}
-use Rattle.register_law.proofs.Words.{Call, KeyId, Stamp, tag_of, Message, Post, Tag, Kept, Handle, tag_of_call, Store, kept_of, proxy_at, Happening, handle_in, LiveCall, Happened, next_call, Ghost, leg_of, legs_after, noted_of, IsLegRequest, LegsAreBacked, IsTagOf, WasSent, IsLiveAt, IsPushFree, IsSamePoint, request_key, among, none_among, NotedLeg as Leg}
+use Rattle.register_law.proofs.Words.{Call, KeyId, Stamp, tag_of, Message, Post, Tag, Kept, Handle, tag_of_call, Store, kept_of, proxy_at, Happening, handle_in, LiveCall, Happened, next_call, Ghost, leg_of, legs_after, noted_of, IsLegRequest, LegsAreBacked, IsTagOf, WasSent, IsLiveAt, IsPushFree, IsSamePoint, request_key, among, none_among, NotedLeg as Leg, IsTicketIn}
 use Rattle.wire_msg.specs.declared.message.Message.TheVariants as m
 use Rattle.register_law.proofs.Growth.{calls_grow}
 use Rattle.register_law.proofs.TagsSent.{IsPushedOn, Posted, replies, opens, asks, posted, sent_after, posted_there}
@@ -8,6 +8,10 @@ use Rattle.register_law.proofs.TagsCalls.{LiveFrom, older, newer, live_from}
 use Rattle.register_law.proofs.TagsKept.{tags_kept}
 use Rattle.register_law.proofs.RequestsKept.{begun_some_stays, Before, no_answer_asks, requests_kept}
 use Rattle.register_law.proofs.Basics.{key_is}
+
+-- a leg that begins now
+abbrev pub new_leg : KeyId → Store → Tag → ℕ → Option Stamp → Leg
+new_leg key s tag epoch ticket = record { call = tag.call; phase = tag.phase; epoch = epoch; ticket = ticket; snap = λ d. kept_of s d key }
 
 -- the leg that the message begins
 abbrev pub leg_made : KeyId → (ℕ → Kept) → Message → Option Leg
@@ -20,7 +24,8 @@ pub record Begins (key : KeyId) (s : Store) (leg : Leg) (message : Message) : Ty
   pub tag : IsTagOf leg (tag_of message)
   pub at_key : request_key message ≡ Some key
   pub request : IsLegRequest key leg leg.ticket message
-  pub snap : leg.snap ≡ (λ d. kept_of s d key)
+  pub ticket : IsTicketIn leg.epoch leg.ticket
+  pub is : leg ≡ new_leg key s (tag_of message) leg.epoch leg.ticket
 
 -- a leg that an event begins
 pub record IsNew (key : KeyId) (s : Store) (h : Happening) (leg : Leg) : Type 0 where
@@ -43,17 +48,17 @@ made_by : (P : Leg → Type 0) (b : Bool) (new leg : Leg) → (b ≡ true → P 
 made_by P true new leg f e = let same : new ≡ leg = cc in subst P same (f refl)
 made_by P false new leg f e = absurd (cc)
 
-begins_read : (key at : KeyId) (s : Store) (tag : Tag) (epoch : ℕ) → at ≡ key → Begins key s (record { call = tag.call; phase = tag.phase; epoch = epoch; ticket = None; snap = λ d. kept_of s d key }) (m.Read tag at epoch)
-begins_read key at s tag epoch is = record { tag = record { call = refl; phase = refl }; at_key = ap Some is; request = ap (λ (x : KeyId). m.Read tag x epoch) is; snap = refl }
+begins_read : (key at : KeyId) (s : Store) (tag : Tag) (epoch : ℕ) → at ≡ key → Begins key s (new_leg key s tag epoch None) (m.Read tag at epoch)
+begins_read key at s tag epoch is = record { tag = record { call = refl; phase = refl }; at_key = ap Some is; request = ap (λ (x : KeyId). m.Read tag x epoch) is; ticket = tt; is = refl }
 
-begins_ask : (key at : KeyId) (s : Store) (tag : Tag) (stamp : Stamp) → at ≡ key → Begins key s (record { call = tag.call; phase = tag.phase; epoch = stamp.epoch; ticket = Some stamp; snap = λ d. kept_of s d key }) (m.Ask tag at stamp)
-begins_ask key at s tag stamp is = record { tag = record { call = refl; phase = refl }; at_key = ap Some is; request = ap (λ (x : KeyId). m.Ask tag x stamp) is; snap = refl }
+begins_ask : (key at : KeyId) (s : Store) (tag : Tag) (stamp : Stamp) → at ≡ key → Begins key s (new_leg key s tag stamp.epoch (Some stamp)) (m.Ask tag at stamp)
+begins_ask key at s tag stamp is = record { tag = record { call = refl; phase = refl }; at_key = ap Some is; request = ap (λ (x : KeyId). m.Ask tag x stamp) is; ticket = refl; is = refl }
 
 made_begins : (key : KeyId) (s : Store) (message : Message) (leg : Leg) → leg_made key (λ d. kept_of s d key) message ≡ Some leg → Begins key s leg message
 made_begins key s (m.Read tag at epoch) leg e =
-    made_by (λ (x : Leg). Begins key s x (m.Read tag at epoch)) (at.0 == key.0) (record { call = tag.call; phase = tag.phase; epoch = epoch; ticket = None; snap = λ d. kept_of s d key }) leg (λ is. begins_read key at s tag epoch (key_is at key is)) e
+    made_by (λ (x : Leg). Begins key s x (m.Read tag at epoch)) (at.0 == key.0) (new_leg key s tag epoch None) leg (λ is. begins_read key at s tag epoch (key_is at key is)) e
 made_begins key s (m.Ask tag at stamp) leg e =
-    made_by (λ (x : Leg). Begins key s x (m.Ask tag at stamp)) (at.0 == key.0) (record { call = tag.call; phase = tag.phase; epoch = stamp.epoch; ticket = Some stamp; snap = λ d. kept_of s d key }) leg (λ is. begins_ask key at s tag stamp (key_is at key is)) e
+    made_by (λ (x : Leg). Begins key s x (m.Ask tag at stamp)) (at.0 == key.0) (new_leg key s tag stamp.epoch (Some stamp)) leg (λ is. begins_ask key at s tag stamp (key_is at key is)) e
 made_begins key s _ leg e = absurd (cc)
 
 from_posts : (key : KeyId) (s : Store) (h : Happening) (posts : List Post) (legs : List Leg) (leg : Leg) → h.posts ≡ posts → Contains (legs_after key s posts legs) leg → Contains legs leg ⊎ IsNew key s h leg

@@ -10,8 +10,8 @@ use Rattle.register_law.proofs.CallsLive.{view_by, seen_by}
 use Rattle.register_law.proofs.TagsCalls.{taken_of, LiveIs, was_live, begins, went_on, live_after, started_as}
 use Rattle.register_law.proofs.CallsAnswers.{PhaseRequest}
 use Rattle.register_law.proofs.CallsStrong.{never_silent, no_best, TookCounted, took_counted, done_key, strong_is}
-use Rattle.register_law.proofs.WaitingPhase.{new_waits, still_waits, quorum_decides, loss_decides, at_first, at_second, at_look, answer_decides, over_decides, looking_never_waits, open_at}
-use Rattle.register_law.specs.WaitingPhases.{goes_on, ends, Counted, stays, decides, Passes, unchanged, counts, is_given_up, PhasesLast, AnswersCount}
+use Rattle.register_law.proofs.WaitingPhase.{new_waits, still_waits, decided_by, looking_never_waits, open_at}
+use Rattle.register_law.specs.WaitingPhases.{goes_on, ends, Counted, stays, decides, Passes, unchanged, counts, is_given_up, PhasesLast, AnswersCount, Leaves}
 use Rattle.register_law.proofs.Happened.{happened}
 use Rattle.register_law.proofs.MovesStep.{counted_tag, counted_is_own}
 use Rattle.register_law.proofs.Induction.{holds_at_end}
@@ -100,19 +100,27 @@ counted_now : (key : KeyId) (s : World) (g : Ghost) (h : Happening) (p : ℕ) (m
 counted_now key s g h p message call t end =
     subst (λ (x : (Step CallState)). IsLiveAt h.store p (handle_in message) (Strong x.state)) t.made (takes_and_lives s h p message (Strong call) t.took (ap (λ (x : (Step CallState)). x.out.end) t.made ∙ end))
 
-decided_next : (key : KeyId) (s : World) (g : Ghost) (h : Happening) (p : ℕ) (message : Message) (call : CallState) (t : Took key s g h p message call) → IsDecided (counted call message).progress.stage (counted call message).progress
-    → (strong.done t.next (counted call message)).out.end ≡ None → (strong.done t.next (counted call message)).state.progress.phase.tag ≡ next_tag (counted call message).progress.phase.tag → Counted h p (handle_in message) call message
-decided_next key s g h p message call t d end tag =
-    decides d (goes_on (strong.done t.next (counted call message)).state (counted_now key s g h p message call t end) (tag ∙ ap next_tag (counted_tag call.progress message)))
-
-decided_end : (key : KeyId) (s : World) (g : Ghost) (h : Happening) (p : ℕ) (message : Message) (call : CallState) (t : Took key s g h p message call) → IsDecided (counted call message).progress.stage (counted call message).progress
-    → (reply : Reply) → (strong.done t.next (counted call message)).out.end ≡ Some reply → Counted h p (handle_in message) call message
-decided_end key s g h p message call t d reply end =
-    decides d (ends reply (end_is_marked s h p message (Strong call) t.took reply (ap (λ (x : (Step CallState)). x.out.end) t.made ∙ end)))
-
 some_value : (best : Option Found) → (best ≡ None → ⊥) → (reply : Reply) × (option_map value_reply best ≡ Some reply)
 some_value None some = absurd (some refl)
 some_value (Some found) some = (value_reply found, refl)
+
+-- what else than waiting is done next: a new phase, or the call's end
+data Turns (now : CallState) (next : Next) : Type 0 where
+  new_phase : (strong.done next now).out.end ≡ None → (strong.done next now).state.progress.phase.tag ≡ next_tag now.progress.phase.tag → Turns now next
+  last_reply : (reply : Reply) → (strong.done next now).out.end ≡ Some reply → Turns now next
+
+turned : (now : CallState) (next : Next) → (next ≡ Wait → ⊥) → (next ≡ Value → now.best ≡ None → ⊥) → Turns now next
+turned now Wait unwaited some = absurd (unwaited refl)
+turned now Value unwaited some = let reply = some_value now.best (some refl) in last_reply reply.0 reply.1
+turned now Repair unwaited some = new_phase refl refl
+turned now Store unwaited some = new_phase refl refl
+turned now Look unwaited some = new_phase refl refl
+turned now (Enter leg) unwaited some = new_phase refl refl
+turned now next unwaited some = last_reply _ refl
+
+leaves : (key : KeyId) (s : World) (g : Ghost) (h : Happening) (p : ℕ) (message : Message) (call : CallState) (t : Took key s g h p message call) → Turns (counted call message) t.next → Leaves h p (handle_in message) call
+leaves key s g h p message call t (new_phase end tag) = goes_on (strong.done t.next (counted call message)).state (counted_now key s g h p message call t end) (tag ∙ ap next_tag (counted_tag call.progress message))
+leaves key s g h p message call t (last_reply reply end) = ends reply (end_is_marked s h p message (Strong call) t.took reply (ap (λ (x : (Step CallState)). x.out.end) t.made ∙ end))
 
 -- by what the call does next
 passes_by : (key : KeyId) (s : World) (g : Ghost) (h : Happening) (p : ℕ) (message : Message) (call : CallState) (t : Took key s g h p message call) (next : Next) → t.next ≡ next
@@ -124,44 +132,11 @@ passes_by key s g h p message call t Wait is r =
     (still_waits key s g now t.inv.openings t.backed.policy t.backed.counted r (λ e. not_ended now.work now.progress.stage now t.asked.request t.asked.is e))
     (λ looks. looking_never_waits now.progress.stage now.work (strong.best_stamp now.best) now.progress (view_by s p message call) (seen_by s p message) looks (t.is_next ∙ is)))
     (subst (λ (n : Next). IsLiveAt h.store p (handle_in message) (Strong (strong.done n now).state)) is (counted_now key s g h p message call t (ap (λ (n : Next). (strong.done n now).out.end) is)))
-passes_by key s g h p message call t Value is r =
+passes_by key s g h p message call t next is r =
     let now : CallState = counted call message in
-    let reply = some_value now.best (λ none. never_silent s now now.progress.stage now.work r refl refl t.asked none) in
-    decided_end key s g h p message call t (answer_decides now.progress.stage now.work (strong.best_stamp now.best) now.progress r) reply.0 (ap (λ (n : Next). (strong.done n now).out.end) is ∙ reply.1)
-passes_by key s g h p message call t Repair is r =
-    decided_next key s g h p message call t (at_first (counted call message).progress.stage (counted call message).progress r.stage_is (quorum_decides (counted call message).progress r.quorum))
-    (ap (λ (n : Next). (strong.done n (counted call message)).out.end) is)
-    (ap (λ (n : Next). (strong.done n (counted call message)).state.progress.phase.tag) is)
-passes_by key s g h p message call t Store is r =
-    decided_next key s g h p message call t (at_first (counted call message).progress.stage (counted call message).progress r.stage_is (quorum_decides (counted call message).progress r.quorum))
-    (ap (λ (n : Next). (strong.done n (counted call message)).out.end) is)
-    (ap (λ (n : Next). (strong.done n (counted call message)).state.progress.phase.tag) is)
-passes_by key s g h p message call t Stored is r =
-    decided_end key s g h p message call t (at_second (counted call message).progress.stage (counted call message).progress r.stage_is (quorum_decides (counted call message).progress r.quorum)) _
-    (ap (λ (n : Next). (strong.done n (counted call message)).out.end) is)
-passes_by key s g h p message call t Fenced is r =
-    decided_end key s g h p message call t (at_first (counted call message).progress.stage (counted call message).progress r.stage_is (loss_decides (counted call message).progress r.lost)) _
-    (ap (λ (n : Next). (strong.done n (counted call message)).out.end) is)
-passes_by key s g h p message call t Unsure is r =
-    decided_end key s g h p message call t (at_second (counted call message).progress.stage (counted call message).progress r.stage_is (loss_decides (counted call message).progress r.lost)) _
-    (ap (λ (n : Next). (strong.done n (counted call message)).out.end) is)
-passes_by key s g h p message call t Look is r =
-    decided_next key s g h p message call t (over_decides (counted call message).progress.stage (counted call message).work (counted call message).progress (view_by s p message call) r.over)
-    (ap (λ (n : Next). (strong.done n (counted call message)).out.end) is)
-    (ap (λ (n : Next). (strong.done n (counted call message)).state.progress.phase.tag) is)
-passes_by key s g h p message call t Moved is r =
-    decided_end key s g h p message call t (over_decides (counted call message).progress.stage (counted call message).work (counted call message).progress (view_by s p message call) r.over) _
-    (ap (λ (n : Next). (strong.done n (counted call message)).out.end) is)
-passes_by key s g h p message call t Outside is r =
-    decided_end key s g h p message call t (at_look (counted call message).progress.stage (counted call message).progress r.stage_is) _
-    (ap (λ (n : Next). (strong.done n (counted call message)).out.end) is)
-passes_by key s g h p message call t NumbersOut is r =
-    decided_end key s g h p message call t (at_look (counted call message).progress.stage (counted call message).progress r.stage_is) _
-    (ap (λ (n : Next). (strong.done n (counted call message)).out.end) is)
-passes_by key s g h p message call t (Enter leg) is r =
-    decided_next key s g h p message call t (at_look (counted call message).progress.stage (counted call message).progress r.stage_is)
-    (ap (λ (n : Next). (strong.done n (counted call message)).out.end) is)
-    (ap (λ (n : Next). (strong.done n (counted call message)).state.progress.phase.tag) is)
+    decides (decided_by now.progress.stage now.work (strong.best_stamp now.best) now.progress (view_by s p message call) (seen_by s p message) next (λ e. cc) r)
+    (leaves key s g h p message call t (subst (Turns now) (sym is) (turned now next (λ e. cc)
+    (λ e none. never_silent s now now.progress.stage now.work (subst (RestsOn now.progress.stage now.work (strong.best_stamp now.best) now.progress (view_by s p message call) (seen_by s p message)) e r) refl refl t.asked none))))
 
 -- a call of the key that took an answer that counts
 counted_so : (key : KeyId) (s : World) (g : Ghost) (h : Happening) (p : ℕ) (message : Message) (call : CallState) → Happened s h → Inv key s g → call.progress.key ≡ key → CallTook s p message (Strong call) h → is_counted call message ≡ true

@@ -1,34 +1,49 @@
 -- A phase that waits is open: neither enough good answers nor too many refusals.
 use Rattle.std.proofs.Common.{◌≡◌, ℕ, ◌+◌, Bool, true, false, refl, sym, subst, ◌*◌, ◌≤◌, ap, ◌∙◌, arith, if◌then◌else◌, ◌==◌, length, nat_lt, Option, Some, None, ltb-false, leb-true, ltb-true, leb-false, subst₂}
-use Rattle.register_law.proofs.Words.{centres_of, member_of, Quorum, Stamp, View, has_quorum, is_lost, enter, go_over, leg_under, next_ticket, verdict_at, Enter, Look, Moved, NumbersOut, Wait, Progress, Stage, Ended, First, Looking, Second, ToRead, ToWrite, Waits, IsDecided, centres_below, has, no_centre, IsQuorumPolicy, faults_of, DcSet, KeyId, Policy, Found, best_stamp, Leg, CallState, Store, policy_of, OpeningsAreBacked, Ghost, FirstCounted, HasPolicy, IsAskedOf, StrongCounted, range_with_len, StrongWork as Work, count-no_centre}
+use Rattle.register_law.proofs.Words.{centres_of, member_of, Quorum, Stamp, View, has_quorum, is_lost, enter, go_over, leg_under, next_ticket, verdict_at, Enter, Look, Moved, NumbersOut, Wait, Progress, Stage, Ended, First, Looking, Second, ToRead, ToWrite, Waits, IsDecided, centres_below, has, no_centre, IsQuorumPolicy, faults_of, DcSet, KeyId, Policy, Found, best_stamp, Leg, CallState, Store, policy_of, OpeningsAreBacked, Ghost, FirstCounted, HasPolicy, IsAskedOf, StrongCounted, range_with_len, StrongWork as Work, count-no_centre, Next, Fenced, Outside, Repair, Stored, Unsure, Value, StoreNext}
 use Rattle.register_law.specs.WaitingPhases.{IsDecidedBy, by_good, by_bad, IsOpen}
-use Rattle.register_law.proofs.Next.{AnswersWhen, at_mark, repaired, GoesOver, over_first, over_repair, over_look, WaitsWhen, undecided, nothing_found, over}
+use Rattle.register_law.proofs.Next.{AnswersWhen, at_mark, repaired, GoesOver, over_first, over_repair, over_look, WaitsWhen, undecided, nothing_found, over, RestsOn}
 use Rattle.register_law.specs.Waiting.{IsUndecided, AsksQuorum}
 use Rattle.register_law.proofs.Quorums.{count_mono, member_is_in, reads_many, writes_many}
 
-pub quorum_decides : (p : Progress) → has_quorum p.leg.f p.phase ≡ true → IsDecidedBy p.leg.f p.phase
+quorum_decides : (p : Progress) → has_quorum p.leg.f p.phase ≡ true → IsDecidedBy p.leg.f p.phase
 quorum_decides p h = by_good (leb-true (length (centres_of p.phase.asked)) (length (centres_of p.phase.good) + p.leg.f) h)
 
-pub loss_decides : (p : Progress) → is_lost p.leg.f p.phase ≡ true → IsDecidedBy p.leg.f p.phase
+loss_decides : (p : Progress) → is_lost p.leg.f p.phase ≡ true → IsDecidedBy p.leg.f p.phase
 loss_decides p h = by_bad (ltb-true p.leg.f (length (centres_of p.phase.bad)) h)
 
-pub at_first : (stage : Stage) (p : Progress) → stage ≡ First → IsDecidedBy p.leg.f p.phase → IsDecided stage p
+at_first : (stage : Stage) (p : Progress) → stage ≡ First → IsDecidedBy p.leg.f p.phase → IsDecided stage p
 at_first stage p is d = subst (λ (x : Stage). IsDecided x p) (sym is) d
 
-pub at_second : (stage : Stage) (p : Progress) → stage ≡ Second → IsDecidedBy p.leg.f p.phase → IsDecided stage p
+at_second : (stage : Stage) (p : Progress) → stage ≡ Second → IsDecidedBy p.leg.f p.phase → IsDecided stage p
 at_second stage p is d = subst (λ (x : Stage). IsDecided x p) (sym is) d
 
-pub at_look : (stage : Stage) (p : Progress) → stage ≡ Looking → IsDecided stage p
+at_look : (stage : Stage) (p : Progress) → stage ≡ Looking → IsDecided stage p
 at_look stage p is = subst (λ (x : Stage). IsDecided x p) (sym is) tt
 
-pub answer_decides : (stage : Stage) (work : Work) (best : Option Stamp) (p : Progress) → AnswersWhen stage work best p → IsDecided stage p
+answer_decides : (stage : Stage) (work : Work) (best : Option Stamp) (p : Progress) → AnswersWhen stage work best p → IsDecided stage p
 answer_decides stage work best p (at_mark version first reads quorum found covered) = at_first stage p first (quorum_decides p quorum)
 answer_decides stage work best p (repaired second reads quorum) = at_second stage p second (quorum_decides p quorum)
 
-pub over_decides : (stage : Stage) (work : Work) (p : Progress) (view : View) → GoesOver stage work p view → IsDecided stage p
+over_decides : (stage : Stage) (work : Work) (p : Progress) (view : View) → GoesOver stage work p view → IsDecided stage p
 over_decides stage work p view (over_first first lost) = at_first stage p first (loss_decides p lost)
 over_decides stage work p view (over_repair second reads lost) = at_second stage p second (loss_decides p lost)
 over_decides stage work p view (over_look looks le) = at_look stage p looks
+
+-- whatever a call does next, but for waiting, its phase is decided
+pub decided_by : (stage : Stage) (work : Work) (best : Option Stamp) (p : Progress) (view : View) (seen : ℕ) (next : Next) → (next ≡ Wait → ⊥) → RestsOn stage work best p view seen next → IsDecided stage p
+decided_by stage work best p view seen Wait goes_on r = absurd (goes_on refl)
+decided_by stage work best p view seen Value goes_on r = answer_decides stage work best p r
+decided_by stage work best p view seen Repair goes_on r = at_first stage p r.stage_is (quorum_decides p r.quorum)
+decided_by stage work best p view seen StoreNext goes_on r = at_first stage p r.stage_is (quorum_decides p r.quorum)
+decided_by stage work best p view seen Stored goes_on r = at_second stage p r.stage_is (quorum_decides p r.quorum)
+decided_by stage work best p view seen Fenced goes_on r = at_first stage p r.stage_is (loss_decides p r.lost)
+decided_by stage work best p view seen Unsure goes_on r = at_second stage p r.stage_is (loss_decides p r.lost)
+decided_by stage work best p view seen Look goes_on r = over_decides stage work p view r.over
+decided_by stage work best p view seen Moved goes_on r = over_decides stage work p view r.over
+decided_by stage work best p view seen Outside goes_on r = at_look stage p r.stage_is
+decided_by stage work best p view seen NumbersOut goes_on r = at_look stage p r.stage_is
+decided_by stage work best p view seen (Enter leg) goes_on r = at_look stage p r.stage_is
 
 -- a call that looks never waits once a Here has counted
 goes_on_looking : (p : Progress) → go_over p ≡ Wait → ⊥
