@@ -5,13 +5,15 @@ use Rattle.wire_msg.specs.declared.actor.Actor.TheVariants as to
 use Rattle.run_marks.specs.declared.mark.Mark.TheVariants as k
 use Rattle.slot_pool.proofs.HistoryLemmas.{take_map}
 use Rattle.wire_msg.specs.declared.outputs.Reply.TheVariants as r
-use Rattle.register_law.proofs.TagsCalls.{taken_of, lives_on, gone_is, proxy_is, lives_within, same_place, LiveFrom, older, newer, live_from, next_is_none}
+use Rattle.register_law.proofs.TagsCalls.{taken_of, lives_on, proxy_is, lives_within, same_place, LiveFrom, older, newer, live_from, next_is_none}
 use Rattle.register_law.proofs.Basics.{is_itself}
 use Rattle.register_law.proofs.CallsOthers.{take_end, take_ticket_is}
 use Rattle.register_law.proofs.MarksAre.{GivenUp, start_ticket, marks_are, EndIs, at_once, by_message, by_hand, end_is, one_end, TicketIs, drawn_first, drawn_later, ticket_is}
 use Rattle.register_law.proofs.EndsBegun.{marked_is_old, was_of_key}
 use Rattle.register_law.proofs.MarksOfKey.{Splits, in_front, behind, splits, in_between}
 use Rattle.register_law.proofs.Growth.{second_below, top_rises, step_grows}
+use Rattle.std.proofs.lemmas.Bool.{cond-true}
+use Rattle.std.proofs.lemmas.Option.{none-some}
 
 -- a call that ended at a message is no longer where it was
 pub ended_is_gone : (s : Store) (h : Happening) (p : ℕ) (message : Message) (live x : LiveCall) (reply : Reply) → CallTook s p message live h → p < length s.proxies → (taken_of s p message live).out.end ≡ Some reply → IsLiveAt h.store p (handle_in message) x → ⊥
@@ -21,8 +23,7 @@ ended_is_gone s h p message live x reply took lt ends there = let goes_on = (liv
 pub given_is_gone : (s : Store) (h : Happening) (p : ℕ) (live x : LiveCall) (given : GivenUp s p live h) → p < length s.proxies → IsLiveAt h.store p given.handle x → ⊥
 given_is_gone s h p live x given lt there =
     let here : IsLiveAt (with_proxy s p _) p given.handle x = subst (λ (z : Store). IsLiveAt z p given.handle x) given.after there in
-    gone_is ⊥ (same_handle given.handle given.handle) x (item_at (proxy_at s p).calls given.handle) (is_itself given.handle.slot given.handle.generation)
-    (sym (take_map (proxy_at s p).calls given.handle given.handle) ∙ subst (λ (y : Proxy). item_at y.calls given.handle ≡ Some x) (proxy_is s p _ lt) here)
+    none-some x (sym (take_map (proxy_at s p).calls given.handle given.handle ∙ cond-true _ _ _ (is_itself given.handle.slot given.handle.generation)) ∙ subst (λ (y : Proxy). item_at y.calls given.handle ≡ Some x) (proxy_is s p _ lt) here)
 
 start_marks_no_end : (X : Type 0) (one other call : Call) (key at : KeyId) (work asked : Work) (ticket : Stamp) (reply : Reply) (b : Bool)
     → k.Begin one key work ∷ (if b then k.Ticket one ticket ∷ [] else []) ≡ k.Begin other at asked ∷ k.End call reply ∷ [] → X

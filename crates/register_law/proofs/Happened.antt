@@ -20,22 +20,19 @@ choose h X false one other f g e = g refl e
 as_outcome : Happening → Outcome
 as_outcome g = Ok g
 
-refused : (h : Happening) (X : Type 0) (fault : StepFault) (o : Outcome) → o ≡ Err fault → o ≡ Ok h → X
-refused h X fault o is e = absurd (cc)
+-- a test that refuses said no
+unless : (h : Happening) (X : Type 0) (b : Bool) (fault : StepFault) (other : Outcome) → (b ≡ false → other ≡ Ok h → X) → (if b then Err fault else other) ≡ Ok h → X
+unless h X true fault other g e = absurd (cc)
+unless h X false fault other g e = g refl e
 
-ok_is : (g h : Happening) (o : Outcome) → o ≡ Ok g → o ≡ Ok h → h ≡ g
-ok_is g h o is e = cc
+ok_is : (g h : Happening) → (let o : Outcome = Ok g in o) ≡ Ok h → h ≡ g
+ok_is g h e = cc
 
 -- what was sent passed the limits
 pub sends_is : (s : Store) (posts : List Post) (marks : List Mark) (h : Happening) → sends s posts marks ≡ Ok h → h ≡ with_sent s posts marks
 sends_is s posts marks h e =
-    let X : Type 0 = h ≡ with_sent s posts marks in
-    let bytes : Outcome = if nat_lt byte_limit ((bulk_of s.sent).bytes + (bulk_of posts).bytes) then Err (Limit FrameBytes ((bulk_of s.sent).bytes + (bulk_of posts).bytes)) else Ok (with_sent s posts marks) in
-    choose h (h ≡ with_sent s posts marks) (nat_lt message_limit (length s.sent + length posts)) (Err (Limit Messages (length s.sent + length posts))) bytes
-    (λ _ k. refused h (h ≡ with_sent s posts marks) (Limit Messages (length s.sent + length posts)) (Err (Limit Messages (length s.sent + length posts))) refl k)
-    (λ _ k. choose h (h ≡ with_sent s posts marks) (nat_lt byte_limit ((bulk_of s.sent).bytes + (bulk_of posts).bytes)) (Err (Limit FrameBytes ((bulk_of s.sent).bytes + (bulk_of posts).bytes))) (Ok (with_sent s posts marks))
-    (λ _ z. refused h (h ≡ with_sent s posts marks) (Limit FrameBytes ((bulk_of s.sent).bytes + (bulk_of posts).bytes)) (Err (Limit FrameBytes ((bulk_of s.sent).bytes + (bulk_of posts).bytes))) refl z)
-    (λ _ z. ok_is (with_sent s posts marks) h (Ok (with_sent s posts marks)) refl z) k) e
+    unless h (h ≡ with_sent s posts marks) (nat_lt message_limit (length s.sent + length posts)) _ _
+    (λ _ k. unless h (h ≡ with_sent s posts marks) (nat_lt byte_limit ((bulk_of s.sent).bytes + (bulk_of posts).bytes)) _ (Ok (with_sent s posts marks)) (λ _ z. ok_is (with_sent s posts marks) h z) k) e
 
 -- how a call begins
 pub data Begins (strong : Bool) (proxy : Proxy) (call : Call) (key : KeyId) (work : Work) (view : View) (d : Done Proxy) : Type 0 where
@@ -75,20 +72,19 @@ from_begins s p key work h d lt known fits (lives handle taken free first is) e 
 started_at : (s : Store) (p : ℕ) (key : KeyId) (work : Work) (h : Happening) → p < length s.proxies → start_at s p key work ≡ Ok h → Happened s h
 unfolding starts
 started_at s p key work h lt e =
-    let strong : Bool = is_strong_key s key in
+    let view : View = view_at (proxy_at s p).views key in
     let d : Done Proxy = starts_as (is_strong_key s key) (proxy_at s p) (next_call s p) key work (view_at (proxy_at s p).views key) in
     let last : Outcome = proxy_did s p d in
     let mode : Outcome = if not (fits_mode (is_strong_key s key) work) then Err WrongMode else last in
-    choose h (Happened s h) (not (nat_lt key.0 (length s.directory.sets))) (Err NoKey) mode (λ _ z. refused h (Happened s h) NoKey (Err NoKey) refl z)
-    (λ c z. choose h (Happened s h) (not (fits_mode (is_strong_key s key) work)) (Err WrongMode) last (λ _ y. refused h (Happened s h) WrongMode (Err WrongMode) refl y)
-    (λ b y. from_begins s p key work h d lt (within_is key.0 (length s.directory.sets) c) (not_false (fits_mode (is_strong_key s key) work) b) (begins (is_strong_key s key) (proxy_at s p) (next_call s p) key work (view_at (proxy_at s p).views key)) (sends_is (with_proxy s p d.actor) d.posts d.marks h y)) z) e
+    unless h (Happened s h) (not (nat_lt key.0 (length s.directory.sets))) NoKey mode (λ c z. unless h (Happened s h) (not (fits_mode (is_strong_key s key) work)) WrongMode last
+    (λ b y. from_begins s p key work h d lt (within_is key.0 (length s.directory.sets) c) (not_false (fits_mode (is_strong_key s key) work) b) (begins (is_strong_key s key) (proxy_at s p) (next_call s p) key work view) (sends_is (with_proxy s p d.actor) d.posts d.marks h y)) z) e
 
 starting : (s : Store) (p key : ℕ) (work : Work) (h : Happening) → start s p key work ≡ Ok h → Happened s h
 starting s p key work h e =
     let at : KeyId = record { 0 = key } in
     let last : Outcome = if (proxy_at s p).stopped then nothing s else start_at s p at work in
-    choose h (Happened s h) (not (nat_lt p (length s.proxies))) (Err NoActor) last (λ _ z. refused h (Happened s h) NoActor (Err NoActor) refl z)
-    (λ b z. choose h (Happened s h) (proxy_at s p).stopped (nothing s) (start_at s p at work) (λ _ y. ignored (ok_is (quietly s) h (nothing s) refl y)) (λ _ y. started_at s p at work h (within_is p (length s.proxies) b) y) z) e
+    unless h (Happened s h) (not (nat_lt p (length s.proxies))) NoActor last
+    (λ b z. choose h (Happened s h) (proxy_at s p).stopped (nothing s) (start_at s p at work) (λ _ y. ignored (ok_is (quietly s) h y)) (λ _ y. started_at s p at work h (within_is p (length s.proxies) b) y) z) e
 
 proxy_took : (s : Store) (p : ℕ) (message : Message) (h : Happening) (o : Option LiveCall) → Contains s.sent (record { to = to.Proxy p; message = message }) → item_at (learned (proxy_at s p) message).calls (handle_in message) ≡ o
     → h ≡ did s p (option_map_or (call_takes (learned (proxy_at s p) message) message) o (only_learns (learned (proxy_at s p) message))) → Happened s h
@@ -99,14 +95,14 @@ delivered_to : (s : Store) (a : Actor) (message : Message) (h : Happening) → C
 unfolding proxy_takes
 delivered_to s (to.Replica d) message h sent e =
     let st : (Step replica.State) = replica.step (replica_at s d).state message in
-    choose h (Happened s h) (replica_at s d).stopped (nothing s) (replica_takes s d message st) (λ _ y. ignored (ok_is (quietly s) h (nothing s) refl y))
+    choose h (Happened s h) (replica_at s d).stopped (nothing s) (replica_takes s d message st) (λ _ y. ignored (ok_is (quietly s) h y))
     (λ b y. replica_took d message (record { sent = sent; runs = b }) (sends_is (with_replica s d (record { stopped = false; state = st.state })) st.out.posts [] h y)) e
 delivered_to s to.Directory message h sent e =
     let st : (Step State) = directory_step.step s.directory message in
     directory_took message sent (sends_is (record s { directory = st.state }) st.out.posts [] h e)
 delivered_to s (to.Proxy p) message h sent e =
     let d : Done Proxy = proxy_takes_as (learned (proxy_at s p) message) message in
-    choose h (Happened s h) (proxy_at s p).stopped (nothing s) (proxy_did s p d) (λ _ y. ignored (ok_is (quietly s) h (nothing s) refl y))
+    choose h (Happened s h) (proxy_at s p).stopped (nothing s) (proxy_did s p d) (λ _ y. ignored (ok_is (quietly s) h y))
     (λ _ y. proxy_took s p message h (item_at (learned (proxy_at s p) message).calls (handle_in message)) sent refl (sends_is (with_proxy s p d.actor) d.posts d.marks h y)) e
 
 -- what is found at a place is among them
@@ -114,37 +110,37 @@ pub found_among : (posts : List Post) (n : ℕ) (post : Post) → slice_get post
 found_among posts n post e = (n, slice_get_within posts n post e, get_or_from_slice_get posts n post post e)
 
 delivering : (s : Store) (n : ℕ) (h : Happening) (o : Option Post) → slice_get s.sent n ≡ o → option_map_or (λ (post : Post). deliver_to s post.to post.message) o (Err (NoMessage (length s.sent))) ≡ Ok h → Happened s h
-delivering s n h None is e = refused h (Happened s h) (NoMessage (length s.sent)) (Err (NoMessage (length s.sent))) refl e
+delivering s n h None is e = absurd (cc)
 delivering s n h (Some post) is e = delivered_to s post.to post.message h (found_among s.sent n post is) e
 
 giving : (s : Store) (p : ℕ) (handle : Handle) (h : Happening) (o : Option LiveCall) → item_at (proxy_at s p).calls handle ≡ o → option_map_or (gives_up s p handle) o (Err NoCall) ≡ Ok h → Happened s h
-giving s p handle h None is e = refused h (Happened s h) NoCall (Err NoCall) refl e
+giving s p handle h None is e = absurd (cc)
 giving s p handle h (Some call) is e =
     let g : Happening = record { store = with_proxy s p (record (proxy_at s p) { calls = after_take (proxy_at s p).calls handle }); marks = k.End (tag_of_call call).call r.GivenUp ∷ []; posts = [] } in
-    choose h (Happened s h) (may_give_up call) (Ok g) (Err NoCall) (λ _ y. gave_up p handle call is (ok_is g h (Ok g) refl y)) (λ _ y. refused h (Happened s h) NoCall (Err NoCall) refl y) e
+    choose h (Happened s h) (may_give_up call) (Ok g) (Err NoCall) (λ _ y. gave_up p handle call is (ok_is g h y)) (λ _ y. absurd (cc)) e
 
 giving_at : (s : Store) (p : ℕ) (h : Happening) (o : Option Handle) → option_map_or (give_up_under s p) o (Err NoCall) ≡ Ok h → Happened s h
-giving_at s p h None e = refused h (Happened s h) NoCall (Err NoCall) refl e
+giving_at s p h None e = absurd (cc)
 giving_at s p h (Some handle) e = giving s p handle h (item_at (proxy_at s p).calls handle) refl e
 
 giving_up : (s : Store) (p seq : ℕ) (h : Happening) → give_up s p seq ≡ Ok h → Happened s h
 giving_up s p seq h e =
     let at : Outcome = option_map_or (give_up_under s p) (handle_of_call (proxy_at s p).calls seq) (Err NoCall) in
     let last : Outcome = if (proxy_at s p).stopped then nothing s else at in
-    choose h (Happened s h) (not (nat_lt p (length s.proxies))) (Err NoActor) last (λ _ z. refused h (Happened s h) NoActor (Err NoActor) refl z)
-    (λ _ z. choose h (Happened s h) (proxy_at s p).stopped (nothing s) at (λ _ y. ignored (ok_is (quietly s) h (nothing s) refl y)) (λ _ y. giving_at s p h (handle_of_call (proxy_at s p).calls seq) y) z) e
+    unless h (Happened s h) (not (nat_lt p (length s.proxies))) NoActor last
+    (λ _ z. choose h (Happened s h) (proxy_at s p).stopped (nothing s) at (λ _ y. ignored (ok_is (quietly s) h y)) (λ _ y. giving_at s p h (handle_of_call (proxy_at s p).calls seq) y) z) e
 
 no_epoch : (s : Store) (h : Happening) (wrong : PublishFault) → opens_none s wrong ≡ Ok h → Happened s h
-no_epoch s h (fault.MissingSet set) e = let g : Happening = record { store = s; marks = k.NoEpoch (cause.MissingSet set) ∷ []; posts = [] } in not_published (cause.MissingSet set) (ok_is g h (Ok g) refl e)
-no_epoch s h (fault.NotQuorum set) e = let g : Happening = record { store = s; marks = k.NoEpoch (cause.NotQuorum set) ∷ []; posts = [] } in not_published (cause.NotQuorum set) (ok_is g h (Ok g) refl e)
-no_epoch s h _ e = ignored (ok_is (quietly s) h (nothing s) refl e)
+no_epoch s h (fault.MissingSet set) e = let g : Happening = record { store = s; marks = k.NoEpoch (cause.MissingSet set) ∷ []; posts = [] } in not_published (cause.MissingSet set) (ok_is g h e)
+no_epoch s h (fault.NotQuorum set) e = let g : Happening = record { store = s; marks = k.NoEpoch (cause.NotQuorum set) ∷ []; posts = [] } in not_published (cause.NotQuorum set) (ok_is g h e)
+no_epoch s h _ e = ignored (ok_is (quietly s) h e)
 
 judging : (s : Store) (table : List SetPolicy) (h : Happening) (o : Option PublishFault) → table_fault s.directory table ≡ o
     → option_map_or (opens_none s) o (as_outcome (record { store = record s { directory = after_publish s.directory table }; marks = k.Epoch (latest s.directory + 1) ∷ []; posts = [] })) ≡ Ok h → Happened s h
 unfolding as_outcome
 judging s table h None is e =
     let g : Happening = record { store = record s { directory = after_publish s.directory table }; marks = k.Epoch (latest s.directory + 1) ∷ []; posts = [] } in
-    published table is (ok_is g h (Ok g) refl e)
+    published table is (ok_is g h e)
 judging s table h (Some wrong) is e = no_epoch s h wrong e
 
 pub happened : (s : Store) (event : Event) (h : Happening) → step s event ≡ Ok h → Happened s h
@@ -153,10 +149,10 @@ happened s (Start p key work) h e = starting s p key work h e
 happened s (Deliver n) h e = delivering s n h (slice_get s.sent n) refl e
 happened s (StopReplica d) h e =
     let g : Store = with_replica s d (record { stopped = true; state = (replica_at s d).state }) in
-    choose h (Happened s h) (not (nat_lt d (length s.replicas))) (Err NoActor) (nothing g) (λ _ y. refused h (Happened s h) NoActor (Err NoActor) refl y) (λ _ y. replica_stopped d (ok_is (quietly g) h (nothing g) refl y)) e
+    unless h (Happened s h) (not (nat_lt d (length s.replicas))) NoActor (nothing g) (λ _ y. replica_stopped d (ok_is (quietly g) h y)) e
 happened s (StopProxy p) h e =
     let g : Store = with_proxy s p (record (proxy_at s p) { stopped = true }) in
-    choose h (Happened s h) (not (nat_lt p (length s.proxies))) (Err NoActor) (nothing g) (λ _ y. refused h (Happened s h) NoActor (Err NoActor) refl y) (λ _ y. proxy_stopped p (ok_is (quietly g) h (nothing g) refl y)) e
+    unless h (Happened s h) (not (nat_lt p (length s.proxies))) NoActor (nothing g) (λ _ y. proxy_stopped p (ok_is (quietly g) h y)) e
 happened s (GiveUp p seq) h e = giving_up s p seq h e
 happened s (Publish table) h e =
-    choose h (Happened s h) (latest s.directory == 1000) (Err (Limit Epochs 1001)) (judged s table) (λ _ y. refused h (Happened s h) (Limit Epochs 1001) (Err (Limit Epochs 1001)) refl y) (λ _ y. judging s table h (table_fault s.directory table) refl y) e
+    unless h (Happened s h) (latest s.directory == 1000) (Limit Epochs 1001) (judged s table) (λ _ y. judging s table h (table_fault s.directory table) refl y) e

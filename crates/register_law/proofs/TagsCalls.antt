@@ -8,6 +8,8 @@ use Rattle.register_law.proofs.Growth.{calls_grow}
 use Rattle.register_law.proofs.TagsSends.{GoesOn, stays, turns, ends}
 use Rattle.register_law.proofs.TagsSteps.{may_ask, take_goes_on, Opens, call_opens}
 use Rattle.register_law.proofs.CallsRows.{OpensAs, opens}
+use Rattle.std.proofs.lemmas.Option.{same_Some, none-some}
+use Rattle.std.proofs.lemmas.Bool.{cond-true}
 
 -- what a live call makes of a message
 abbrev pub taken_of : Store → ℕ → Message → LiveCall → Taken
@@ -34,33 +36,29 @@ same_handle_is one other h =
     let two = both_equal one.slot other.slot one.generation other.generation h in
     ap (λ n. let x : Handle = record { slot = n; generation = other.generation } in x) (sym two.0) ∙ ap (λ n. let x : Handle = record { slot = one.slot; generation = n } in x) (sym two.1)
 
--- an item that was put, or was there
-added : {T : Type 0} → (X : Type 0) (b : Bool) (item call : T) (was : Option T) → (b ≡ true → call ≡ item → X) → (was ≡ Some call → X) → (if b then Some item else was) ≡ Some call → X
-added {T} X true item call was f g e = f refl (cc)
-added {T} X false item call was f g e = g e
+-- of what stands at a place after a change, told by a test
+pub by_test : {T : Type 0} → (X : Type 0) (b : Bool) (one other new : Option T) → new ≡ (if b then one else other) → (b ≡ true → new ≡ one → X) → (new ≡ other → X) → X
+by_test {T} X true one other new is f g = f refl is
+by_test {T} X false one other new is f g = g is
 
-changed_to : {T : Type 0} → (X : Type 0) (b : Bool) (item call : T) (was : Option T) → (b ≡ true → call ≡ item → X) → (was ≡ Some call → X) → (if b then option_map (λ _. item) was else was) ≡ Some call → X
-changed_to {T} X true item call (Some old) f g e = f refl (cc)
-changed_to {T} X true item call None f g e = absurd (cc)
-changed_to {T} X false item call was f g e = g e
-
-removed_from : {T : Type 0} → (X : Type 0) (b : Bool) (call : T) (was : Option T) → (was ≡ Some call → X) → (if b then None else was) ≡ Some call → X
-removed_from {T} X true call was g e = absurd (cc)
-removed_from {T} X false call was g e = g e
+mapped_is : {T : Type 0} → (item call : T) (was : Option T) → option_map (λ _. item) was ≡ Some call → call ≡ item
+mapped_is {T} item call (Some old) e = cc
+mapped_is {T} item call None e = absurd (cc)
 
 started_live : (s : Store) (h : Happening) (p : ℕ) (key : KeyId) (work : Work) (st : Started s p key work h) (handle : Handle) (call : LiveCall)
     → item_at (with_item (proxy_at s p).calls st.handle st.taken.state) handle ≡ Some call → LiveIs s h p handle call
 started_live s h p key work st handle call e =
-    added (LiveIs s h p handle call) (same_handle st.handle handle) st.taken.state call (item_at (proxy_at s p).calls handle)
-    (λ same is. begins key work st (same_handle_is st.handle handle same) is) (λ was. was_live was) (sym (put_map (proxy_at s p).calls st.handle st.taken.state st.free handle) ∙ e)
+    by_test (LiveIs s h p handle call) (same_handle st.handle handle) (Some st.taken.state) (item_at (proxy_at s p).calls handle) (item_at (with_item (proxy_at s p).calls st.handle st.taken.state) handle) (put_map (proxy_at s p).calls st.handle st.taken.state st.free handle)
+    (λ same is. begins key work st (same_handle_is st.handle handle same) (same_Some call st.taken.state (sym e ∙ is))) (λ was. was_live (sym was ∙ e))
 
 took_live : (s : Store) (h : Happening) (p : ℕ) (message : Message) (old : LiveCall) → CallTook s p message old h → (o : Option Reply) → (taken_of s p message old).out.end ≡ o → (handle : Handle) (call : LiveCall)
     → item_at (calls_with (proxy_at s p).calls (handle_in message) (taken_of s p message old).state o) handle ≡ Some call → LiveIs s h p handle call
 took_live s h p message old took None on handle call e =
-    changed_to (LiveIs s h p handle call) (same_handle (handle_in message) handle) (taken_of s p message old).state call (item_at (proxy_at s p).calls handle)
-    (λ same is. went_on message old took (same_handle_is (handle_in message) handle same) is on) (λ was. was_live was) (sym (write_map (proxy_at s p).calls (handle_in message) (taken_of s p message old).state handle) ∙ e)
+    by_test (LiveIs s h p handle call) (same_handle (handle_in message) handle) _ (item_at (proxy_at s p).calls handle) _ (write_map (proxy_at s p).calls (handle_in message) (taken_of s p message old).state handle)
+    (λ same is. went_on message old took (same_handle_is (handle_in message) handle same) (mapped_is (taken_of s p message old).state call (item_at (proxy_at s p).calls handle) (sym is ∙ e)) on) (λ was. was_live (sym was ∙ e))
 took_live s h p message old took (Some reply) on handle call e =
-    removed_from (LiveIs s h p handle call) (same_handle (handle_in message) handle) call (item_at (proxy_at s p).calls handle) (λ was. was_live was) (sym (take_map (proxy_at s p).calls (handle_in message) handle) ∙ e)
+    by_test (LiveIs s h p handle call) (same_handle (handle_in message) handle) None (item_at (proxy_at s p).calls handle) _ (take_map (proxy_at s p).calls (handle_in message) handle)
+    (λ same is. absurd (none-some call (sym is ∙ e))) (λ was. was_live (sym was ∙ e))
 
 -- what lives at a proxy
 abbrev Lives : Store → Happening → ℕ → Handle → LiveCall → Proxy → Type 0
@@ -87,7 +85,7 @@ live_after s h (call_took at message old took) p handle call e =
 live_after s h (gave_up at given old live is) p handle call e =
     proxy_cases s at p (record (proxy_at s at) { calls = after_take (proxy_at s at).calls given }) (Lives s h p handle call) (λ z. was_live z)
     (λ same z. was_live (subst (λ (n : ℕ). item_at (proxy_at s n).calls handle ≡ Some call) (sym same)
-    (removed_from (item_at (proxy_at s at).calls handle ≡ Some call) (same_handle given handle) call (item_at (proxy_at s at).calls handle) (λ was. was) (sym (take_map (proxy_at s at).calls given handle) ∙ z))))
+    (by_test (item_at (proxy_at s at).calls handle ≡ Some call) (same_handle given handle) None (item_at (proxy_at s at).calls handle) _ (take_map (proxy_at s at).calls given handle) (λ _ gone. absurd (none-some call (sym gone ∙ z))) (λ was. sym was ∙ z))))
     (subst (λ (x : Happening). IsLiveAt x.store p handle call) is e)
 live_after s h o p handle call e = was_live (subst (λ (x : Happening). IsLiveAt x.store p handle call) (is_made s h o) e)
 
@@ -96,29 +94,15 @@ pub record LivesOn (s : Store) (p : ℕ) (message : Message) (old call : LiveCal
   pub is : call ≡ (taken_of s p message old).state
   pub no_end : (taken_of s p message old).out.end ≡ None
 
-mapped_is : {T : Type 0} → (item call : T) (was : Option T) → option_map (λ _. item) was ≡ Some call → call ≡ item
-mapped_is {T} item call (Some old) e = cc
-mapped_is {T} item call None e = absurd (cc)
-
-written_is : {T : Type 0} → (b : Bool) (item call : T) (was : Option T) → b ≡ true → (if b then option_map (λ _. item) was else was) ≡ Some call → call ≡ item
-written_is {T} true item call was same e = mapped_is item call was e
-written_is {T} false item call was same e = absurd (cc)
-
-pub gone_is : {T : Type 0} → (X : Type 0) (b : Bool) (call : T) (was : Option T) → b ≡ true → (if b then None else was) ≡ Some call → X
-gone_is {T} X true call was same e = absurd (cc)
-gone_is {T} X false call was same e = absurd (cc)
-
 on_at : (s : Store) (p : ℕ) (message : Message) (old call : LiveCall) (o : Option Reply) → (taken_of s p message old).out.end ≡ o
     → item_at (calls_with (proxy_at s p).calls (handle_in message) (taken_of s p message old).state o) (handle_in message) ≡ Some call → LivesOn s p message old call
-on_at s p message old call None is e =
-    record {
-      is = written_is (same_handle (handle_in message) (handle_in message)) (taken_of s p message old).state call (item_at (proxy_at s p).calls (handle_in message)) (is_itself (handle_in message).slot (handle_in message).generation)
-          (sym (write_map (proxy_at s p).calls (handle_in message) (taken_of s p message old).state (handle_in message)) ∙ e);
-      no_end = is;
-    }
+on_at s p message old call None is e = record {
+  is = mapped_is (taken_of s p message old).state call (item_at (proxy_at s p).calls (handle_in message))
+      (sym (write_map (proxy_at s p).calls (handle_in message) (taken_of s p message old).state (handle_in message) ∙ cond-true _ _ _ (is_itself (handle_in message).slot (handle_in message).generation)) ∙ e);
+  no_end = is;
+}
 on_at s p message old call (Some reply) is e =
-    gone_is (LivesOn s p message old call) (same_handle (handle_in message) (handle_in message)) call (item_at (proxy_at s p).calls (handle_in message)) (is_itself (handle_in message).slot (handle_in message).generation)
-    (sym (take_map (proxy_at s p).calls (handle_in message) (handle_in message)) ∙ e)
+    absurd (none-some call (sym (take_map (proxy_at s p).calls (handle_in message) (handle_in message) ∙ cond-true _ _ _ (is_itself (handle_in message).slot (handle_in message).generation)) ∙ e))
 
 -- what lives after the event under the handle of the message that a call took
 pub lives_on : (s : Store) (h : Happening) (p : ℕ) (message : Message) (old call : LiveCall) → CallTook s p message old h → p < length s.proxies → IsLiveAt h.store p (handle_in message) call → LivesOn s p message old call

@@ -12,6 +12,7 @@ use Rattle.register_law.proofs.WaitingMeets.{same_part, Meets, untouched, takes,
 use Rattle.register_law.proofs.CallsRows.{OpensAs, opens_read}
 use Rattle.register_law.proofs.Basics.{is_itself}
 use Rattle.register_law.proofs.MarksAre.{MarksAre, marks_are, moved, MarkIs, nobodys, refused_begin, started_begin, mark_is}
+use Rattle.std.proofs.lemmas.Bool.{cond-true}
 
 -- no step changes what a call does
 done_work : (next : Next) (call : CallState) → (strong.done next call).state.work ≡ call.work
@@ -62,17 +63,12 @@ lives_or_ends s h is p handle live there = by (meets s h is p handle live there)
 
 -- ---- whatever was begun, and has no end, lives
 
-new_item : (b : Bool) (item : LiveCall) (o new : Option LiveCall) → b ≡ true → new ≡ (if b then Some item else o) → new ≡ Some item
-new_item true item o new same is = is
-new_item false item o new same is = absurd (cc)
-
 -- a call that was begun lives
 pub started_lives : (s : Store) (h : Happening) (p : ℕ) (key : KeyId) (work : Work) (st : Started s p key work h) → IsLiveAt h.store p st.handle st.taken.state
 started_lives s h p key work st =
     subst (λ (x : Happening). IsLiveAt x.store p st.handle st.taken.state) (sym st.is)
     (subst (λ (x : Proxy). item_at x.calls st.handle ≡ Some st.taken.state) (sym (proxy_is s p _ st.exists))
-    (new_item (same_handle st.handle st.handle) st.taken.state (item_at (proxy_at s p).calls st.handle) (item_at (with_item (proxy_at s p).calls st.handle st.taken.state) st.handle)
-    (is_itself st.handle.slot st.handle.generation) (put_map (proxy_at s p).calls st.handle st.taken.state st.free st.handle)))
+    (put_map (proxy_at s p).calls st.handle st.taken.state st.free st.handle ∙ cond-true _ _ _ (is_itself st.handle.slot st.handle.generation)))
 
 -- what a call that begins is
 kind_opened : (tag : Tag) (at : DcId) (view : View) (ticket : Stamp) (strong : Bool) (asked : Work) (taken : Taken) → OpensAs tag at view ticket strong asked taken → IsKindOf taken.state asked

@@ -1,5 +1,5 @@
 -- A live call stands under the handle of its tag, so its answers meet it.
-use Rattle.std.proofs.Common.{◌≡◌, ℕ, zero, suc, ◌<◌, Bool, true, false, List, [], ◌∷◌, refl, sym, ap, ◌∙◌, subst, arith, if◌then◌else◌, ◌==◌, length, slice_index_or, Option, Some, None, option_map, option_and_then, Contains, slice_get, Ok, Err}
+use Rattle.std.proofs.Common.{◌≡◌, ℕ, zero, suc, ◌<◌, Bool, true, false, List, [], ◌∷◌, refl, sym, ap, ◌∙◌, subst, arith, if◌then◌else◌, ◌==◌, length, slice_index_or, Option, Some, None, option_map, option_and_then, Contains, slice_get, Ok, Err, eq-eqb}
 use Rattle.std.specs.Option.{option_map_or}
 use Rattle.register_law.proofs.Words.{Message, Reply, same_handle, after_take, item_at, item_for, next_handle, with_item, Handle, tag_of_call, Proxy, Store, no_proxy, proxy_at, Happening, calls_with, handle_in, with_proxy, LiveCall, CallTook, Happened, call_took, gave_up, proxy_learned, proxy_stopped, refused_at_once, started, IsLiveAt, Slot, KeyId, Stamp, Outputs, Post, Tag, next_tag, key_of_call, learned, MayRun, run_of, Done, opening, view_at, call_takes, deliver_to, nothing, only_learns, proxy_did, proxy_takes, proxy_takes_as, step, Event, Deliver, Header, NoMessage, did, first_ghost}
 use Rattle.wire_msg.specs.declared.outputs.Reply.TheVariants as r
@@ -8,13 +8,14 @@ use Rattle.slot_pool.proofs.HistoryLemmas.{put_map, take_map, write_map}
 use Rattle.run_marks.specs.declared.mark.Mark.TheVariants as k
 use Rattle.wire_msg.specs.declared.actor.Actor.TheVariants as to
 use Rattle.register_law.proofs.Basics.{is_itself, is_made}
-use Rattle.register_law.proofs.TagsCalls.{taken_of, proxy_cases, proxy_is, same_handle_is, LiveIs, was_live, begins, went_on, live_after, started_opens}
+use Rattle.register_law.proofs.TagsCalls.{taken_of, proxy_cases, proxy_is, same_handle_is, LiveIs, was_live, begins, went_on, live_after, started_opens, by_test}
 use Rattle.register_law.specs.WaitingPhases.{IsDelivered}
 use Rattle.register_law.proofs.Induction.{all_along}
 use Rattle.register_law.proofs.Happened.{happened, sends_is, found_among}
 use Rattle.register_law.proofs.Opening.{none_live}
 use Rattle.register_law.proofs.TagsSends.{GoesOn, stays, turns, ends}
 use Rattle.register_law.proofs.TagsSteps.{may_ask, take_goes_on}
+use Rattle.std.proofs.lemmas.Bool.{cond-true}
 
 pub data Meets (s : Store) (h : Happening) (p : ℕ) (handle : Handle) (live : LiveCall) : Type 0 where
   untouched : IsLiveAt h.store p handle live → Meets s h p handle live
@@ -27,26 +28,18 @@ lives_somewhere [] p handle live there = absurd (cc)
 lives_somewhere (x ∷ xs) zero handle live there = omega arith
 lives_somewhere (x ∷ xs) (suc p) handle live there = (let lt = lives_somewhere xs p handle live there in omega arith)
 
-none_either : (b : Bool) (o : Option LiveCall) → o ≡ None → (if b then o else o) ≡ None
-none_either true o is = is
-none_either false o is = is
-
 -- nothing lives under the handle that the next call gets
 pub next_is_free : (slots : List (Slot LiveCall)) (handle : Handle) → next_handle slots ≡ Some handle → item_at slots handle ≡ None
 next_is_free slots handle free =
-    ap (option_and_then (item_for {T = LiveCall} handle.generation)) (next_is slots handle free) ∙ none_either (handle.generation == handle.generation) None refl
+    ap (option_and_then (item_for {T = LiveCall} handle.generation)) (next_is slots handle free) ∙ cond-true _ _ _ (eq-eqb handle.generation handle.generation refl)
 
 pub same_item : (slots : List (Slot LiveCall)) (a b : Handle) (one other : LiveCall) → a ≡ b → item_at slots a ≡ Some one → item_at slots b ≡ Some other → one ≡ other
 same_item slots a b one other e x y = (let z : item_at slots b ≡ Some one = subst (λ (t : Handle). item_at slots t ≡ Some one) e x in cc)
 
-by_test : (X : Type 0) (b : Bool) (one other new : Option LiveCall) → new ≡ (if b then one else other) → (b ≡ true → X) → (new ≡ other → X) → X
-by_test X true one other new is f g = f refl
-by_test X false one other new is f g = g is
-
 -- a proxy's pool after a call of it took a message: under another handle all is as it was
 pool_apart : (X : Type 0) (slots : List (Slot LiveCall)) (at handle : Handle) (item : LiveCall) (o : Option Reply) → (handle ≡ at → X) → (item_at (calls_with slots at item o) handle ≡ item_at slots handle → X) → X
-pool_apart X slots at handle item None f g = by_test X (same_handle at handle) _ (item_at slots handle) _ (write_map slots at item handle) (λ same. f (same_handle_is at handle same)) g
-pool_apart X slots at handle item (Some reply) f g = by_test X (same_handle at handle) None (item_at slots handle) _ (take_map slots at handle) (λ same. f (same_handle_is at handle same)) g
+pool_apart X slots at handle item None f g = by_test X (same_handle at handle) _ (item_at slots handle) _ (write_map slots at item handle) (λ same _. f (same_handle_is at handle same)) g
+pool_apart X slots at handle item (Some reply) f g = by_test X (same_handle at handle) None (item_at slots handle) _ (take_map slots at handle) (λ same _. f (same_handle_is at handle same)) g
 
 -- what lives at a proxy that changed
 abbrev Stands : Store → Happening → ℕ → Handle → LiveCall → Proxy → Type 0
@@ -65,7 +58,7 @@ meets s h (refused_at_once at key work reply lt dead is) p handle live there = c
 meets s h (started at key work st) p handle live there =
     changes s h at p _ handle live (ap (λ (x : Happening). x.store.proxies) st.is) there
     (λ e old f. by_test (Meets s h p handle live) (same_handle st.handle handle) (Some st.taken.state) (item_at (proxy_at s at).calls handle) (item_at (with_item (proxy_at s at).calls st.handle st.taken.state) handle)
-    (put_map (proxy_at s at).calls st.handle st.taken.state st.free handle) (λ same. taken_twice (same_handle_is st.handle handle same) old) (λ is. f (is ∙ old)))
+    (put_map (proxy_at s at).calls st.handle st.taken.state st.free handle) (λ same _. taken_twice (same_handle_is st.handle handle same) old) (λ is. f (is ∙ old)))
   where
     taken_twice : handle ≡ st.handle → item_at (proxy_at s at).calls handle ≡ Some live → Meets s h p handle live
     taken_twice same old = absurd (let none = next_is_free (proxy_at s at).calls st.handle st.free in let some = subst (λ (x : Handle). item_at (proxy_at s at).calls x ≡ Some live) same old in cc)
@@ -82,7 +75,7 @@ meets s h (call_took at message was took) p handle live there =
 meets s h (gave_up at given was lives is) p handle live there =
     changes s h at p _ handle live (ap (λ (x : Happening). x.store.proxies) is) there
     (λ e old f. by_test (Meets s h p handle live) (same_handle given handle) None (item_at (proxy_at s at).calls handle) (item_at (after_take (proxy_at s at).calls given) handle) (take_map (proxy_at s at).calls given handle)
-    (λ same. own (same_handle_is given handle same) old) (λ is. f (is ∙ old)))
+    (λ same _. own (same_handle_is given handle same) old) (λ is. f (is ∙ old)))
   where
     own : handle ≡ given → item_at (proxy_at s at).calls handle ≡ Some live → Meets s h p handle live
     own same old =
@@ -90,18 +83,14 @@ meets s h (gave_up at given was lives is) p handle live there =
         (subst (λ (x : Happening). Contains x.marks (k.End (tag_of_call was).call r.GivenUp)) (sym is) (0, omega arith, refl)))
 meets s h o p handle live there = untouched (subst (λ (x : Happening). IsLiveAt x.store p handle live) (sym (is_made s h o)) there)
 
-written : (b : Bool) (item live : LiveCall) (o new : Option LiveCall) → new ≡ (if b then option_map (λ _. item) o else o) → b ≡ true → o ≡ Some live → new ≡ Some item
-written true item live o new is same was = is ∙ ap (λ (x : Option LiveCall). option_map (λ _. item) x) was
-written false item live o new is same was = absurd (cc)
-
 -- a call that took a message and has no end lives on
 pub takes_and_lives : (s : Store) (h : Happening) (p : ℕ) (message : Message) (live : LiveCall) → CallTook s p message live h → (taken_of s p message live).out.end ≡ None → IsLiveAt h.store p (handle_in message) (taken_of s p message live).state
 takes_and_lives s h p message live took end =
     subst (λ (x : Happening). IsLiveAt x.store p (handle_in message) (taken_of s p message live).state) (sym took.is)
     (subst (λ (x : Proxy). item_at x.calls (handle_in message) ≡ Some (taken_of s p message live).state) (sym (proxy_is s p _ (lives_somewhere s.proxies p (handle_in message) live took.live)))
     (subst (λ (o : Option Reply). item_at (calls_with (proxy_at s p).calls (handle_in message) (taken_of s p message live).state o) (handle_in message) ≡ Some (taken_of s p message live).state) (sym end)
-    (written (same_handle (handle_in message) (handle_in message)) (taken_of s p message live).state live (item_at (proxy_at s p).calls (handle_in message)) _
-    (write_map (proxy_at s p).calls (handle_in message) (taken_of s p message live).state (handle_in message)) (is_itself (handle_in message).slot (handle_in message).generation) took.live)))
+    (write_map (proxy_at s p).calls (handle_in message) (taken_of s p message live).state (handle_in message) ∙ cond-true _ _ _ (is_itself (handle_in message).slot (handle_in message).generation)
+    ∙ ap (option_map (λ _. (taken_of s p message live).state)) took.live)))
 
 -- ---- a live call's tag has the handle under which it lives, so that what is delivered under its tag is what it takes
 
