@@ -1,8 +1,8 @@
 -- What the answers of replicas tell of an eventual key holds after every run.
-use Rattle.std.proofs.Common.{◌≡◌, ℕ, ◌≤◌, List, refl, sym, ap, subst, arith}
+use Rattle.std.proofs.Common.{ℕ, ◌≤◌, List, refl, sym, subst, arith}
 use Rattle.register_law.proofs.Words.{IsAtMost-refl}
-use Rattle.std.specs.Prelude.{nat_lt, nat_le, max}
-use Rattle.std.proofs.lemmas.Bool.{le-ltb, ltb-false, le-leb}
+use Rattle.std.specs.Prelude.{nat_lt, nat_le}
+use Rattle.std.proofs.lemmas.Bool.{ltb-false, le-leb}
 use Rattle.span_base.specs.declared.ids.KeyId.{KeyId}
 use Rattle.span_base.specs.declared.dc_set.DcSet.{DcSet}
 use Rattle.ticket_rules.specs.declared.stamp.Stamp.{Stamp}
@@ -23,8 +23,8 @@ use Rattle.register_law.proofs.Growth.{before_grows, fixed_stays}
 use Rattle.register_order.proofs.Stamps.{IsAtMost-trans}
 use Rattle.register_law.proofs.Opening.{nothing_sent, nothing_kept}
 use Rattle.register_law.proofs.ReplicasKept.{fixed_by}
-use Rattle.register_law.proofs.AnswersTold.{Froze, seed_replied, freeze_replied, Replied}
-use Rattle.register_law.proofs.AnswersPairs.{reaches_before, before_by}
+use Rattle.register_law.proofs.AnswersTold.{seed_replied, freeze_replied, Replied}
+use Rattle.register_law.proofs.AnswersPairs.{reaches_before, froze_now}
 use Rattle.eventual_law.specs.Keys.{IsEventualKey}
 use Rattle.eventual_law.specs.Known.{Known}
 use Rattle.eventual_law.specs.Told.{EventualAnswersTell}
@@ -59,16 +59,6 @@ yes_seed_after key s g h tag d epoch stamp value is t (now_replied copy c r) =
     reaches_before key h.store (noted_of key s h g) d epoch stamp
     (seed_replied key s h tag tag epoch stamp value d (subst (λ (x : Message). Replied key s h x (m.Yes tag (record { 0 = d }))) (seed_copy copy tag key epoch stamp value c.same) r))
 
--- a replica that froze just now
-froze_now : (key : KeyId) (s : Store) (g : Ghost) (h : Happening) → Tells key s g → (d epoch : ℕ) (version mark : Stamp) (value : List ℕ) → Froze key s h epoch d version mark value → (epoch ≤ (kept_of h.store d key).frozen) × IsAtMost (version_before key h.store (noted_of key s h g) d epoch) version
-froze_now key s g h t d epoch version mark value froze =
-    let frozen : (kept_of h.store d key).frozen ≡ max (kept_of s d key).frozen epoch = ap (λ (x : Kept). x.frozen) froze.became in
-    let le : epoch ≤ (kept_of h.store d key).frozen = omega arith in
-    let at_most : IsAtMost (version_before key h.store (noted_of key s h g) d epoch) (kept_of s d key).version =
-    before_by (nat_lt (kept_of h.store d key).frozen epoch) (nat_lt (kept_of s d key).frozen epoch) (nat_le epoch (kept_of h.store d key).frozen) (kept_of h.store d key).version (kept_of s d key).version (g.fixed d epoch)
-    (le-ltb (kept_of h.store d key).frozen epoch le) (le-leb epoch (kept_of h.store d key).frozen le) (λ b. t.answers.fixed_below d epoch (ltb-false (kept_of s d key).frozen epoch b)) in
-    (le, subst (IsAtMost (version_before key h.store (noted_of key s h g) d epoch)) froze.shows.version_is at_most)
-
 have_freeze_after : (key : KeyId) (s : Store) (g : Ghost) (h : Happening) (tag : Tag) (d epoch : ℕ) (version mark : Stamp) (value : List ℕ) → Happened s h → Tells key s g → PairOf key s h (m.Freeze tag key epoch) (m.Have tag (record { 0 = d }) version mark value)
     → (epoch ≤ (kept_of h.store d key).frozen) × IsAtMost (version_before key h.store (noted_of key s h g) d epoch) version
 have_freeze_after key s g h tag d epoch version mark value is t (both_sent copy c sent told) =
@@ -77,7 +67,7 @@ have_freeze_after key s g h tag d epoch version mark value is t (both_sent copy 
     let more = (rises key s h is d).frozen in
     (omega arith, subst (λ (x : Stamp). IsAtMost x version) (sym (fixed_stays key s g h is d epoch was.0)) was.1)
 have_freeze_after key s g h tag d epoch version mark value is t (now_replied copy c r) =
-    froze_now key s g h t d epoch version mark value (freeze_replied key s h tag tag epoch d version mark value (subst (λ (x : Message). Replied key s h x (m.Have tag (record { 0 = d }) version mark value)) (freeze_copy copy tag key epoch c.same) r))
+    froze_now key s g h t.answers.fixed_below d epoch version mark value (freeze_replied key s h tag tag epoch d version mark value (subst (λ (x : Message). Replied key s h x (m.Have tag (record { 0 = d }) version mark value)) (freeze_copy copy tag key epoch c.same) r))
 
 pub tells_after : (key : KeyId) (s : Store) (g : Ghost) (h : Happening) → Happened s h → Tells key s g → Tells key h.store (noted_of key s h g)
 tells_after key s g h is t =

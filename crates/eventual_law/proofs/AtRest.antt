@@ -1,9 +1,8 @@
 -- Where all that was sent has been taken, no move is left that closes the current epoch, and so no replica is frozen for it.
-use Rattle.std.proofs.Common.{◌≡◌, inl, inr, ℕ, ◌+◌, ◌<◌, ◌≤◌, Bool, true, false, refl, sym, ap, ◌∙◌, subst, arith}
-use Rattle.std.specs.Prelude.{◌^◌, nat_le, length, Option, Contains}
+use Rattle.std.proofs.Common.{◌≡◌, inl, inr, ℕ, ◌+◌, ◌<◌, ◌≤◌, Bool, true, false, refl, sym, ap, ◌∙◌, subst, arith, leb-false}
+use Rattle.std.specs.Prelude.{◌^◌, length, Option, Contains}
 use Rattle.std.specs.List.{range_with_len}
 use Rattle.std.proofs.lemmas.Bool.{eq-eqb, cases_lt}
-use Rattle.std.proofs.lemmas.Grind.{common_steps}
 use Rattle.span_base.specs.declared.ids.KeyId.{KeyId}
 use Rattle.span_base.specs.declared.dc_set.DcSet.{DcSet}
 use Rattle.span_base.specs.declared.policy.Policy.{Policy}
@@ -35,8 +34,8 @@ use Rattle.eventual_law.specs.Held.{FreezingHeld, SeedingHeld, SwitchingHeld, Is
 use Rattle.eventual_law.specs.Laws.{IsPlaced, ArePlaced}
 use Rattle.eventual_law.specs.Quiet.{IsSoundEventual, ByReplica, ByProxy, HasCounted, WasTaken, Closes, IsOpenStill}
 use Rattle.eventual_law.proofs.Bounds.{frozen_below}
-use Rattle.eventual_law.proofs.EpochsRun.{newest_opened}
 use Rattle.eventual_law.proofs.QuietRun.{GoesOn}
+use Rattle.register_law.proofs.OpeningsKept.{newest_opened}
 
 -- no actor is stopped, and all that was sent was taken
 pub record IsAtRest (key : KeyId) (s : Store) (g : Ghost) : Type 0 where
@@ -96,9 +95,6 @@ enough (Direct f replicas primary) h = h.sound.enough
 enough (Relay f replicas primary parent) h = h.sound.0.enough
 enough (Strong f replicas members) h = absurd (let no = h.eventual in cc)
 
-not_below : (a b : ℕ) → nat_le a b ≡ false → b < a
-not_below a b h = grind (arith, common_steps)
-
 more_centres : (a b : DcSet) → ((d : ℕ) → has a d ≡ true → has b d ≡ true) → length (centres_of a) ≤ length (centres_of b)
 unfolding centres_of centres_below
 more_centres a b within = count_mono (has a) (has b) within (range_with_len 0 16)
@@ -111,7 +107,7 @@ current_within key s g goes = goes.inv.epochs.published (current_of s.directory 
 no_seeding : (key : KeyId) (s : Store) (g : Ghost) → IsAtRest key s g → (p : ℕ) (handle : Handle) (call : Moving) (old : ℕ) (new : Epoch) (frozen : DcSet) (seeded : Stamp) (top_gone : ℕ) → IsLiveAt s p handle (EventualMove call) → call.key ≡ key → call.stage ≡ at.Seeding old new frozen seeded top_gone
     → old ≡ current_of s.directory key → ⊥
 no_seeding key s g r p handle call old new frozen seeded top_gone lives at_key stage current =
-    (let few = not_below (faults_of new.policy + 1) (length (centres_of call.phase.good)) still.0 in
+    (let few = leb-false (faults_of new.policy + 1) (length (centres_of call.phase.good)) still.0 in
     let more = more_centres call.phase.asked call.phase.good heard_from in
     let many : faults_of new.policy + 1 ≤ length (centres_of call.phase.asked) = subst (λ (x : DcSet). faults_of new.policy + 1 ≤ length (centres_of x)) (sym held.asked) (enough new.policy sound) in
     omega arith)

@@ -26,7 +26,7 @@ use Rattle.register_order.proofs.Members.{among, none_among}
 use Rattle.eventual_law.specs.Kinds.{MayAskEventual, KeyIsEventual}
 use Rattle.eventual_law.specs.Held.{InvOfEventual}
 use Rattle.eventual_law.specs.Quiet.{MovesGoOn}
-use Rattle.eventual_law.proofs.KeptNow.{same_at}
+use Rattle.std.proofs.lemmas.Option.{same_Some}
 
 below_first : (key : KeyId) (s : Store) (new : ℕ) (rest : List ℕ) → IsChain key s (new ∷ rest) → (e : ℕ) → Contains (new ∷ rest) e → e ≤ new
 below_first key s new [] chain e c = elim (among new [] e c) as (λ _. e ≤ new) [ inl is ↦ omega arith | inr more ↦ absurd (none_among e more) ]
@@ -68,7 +68,7 @@ took key s d (m.Store tag at stamp value) sent is may = absurd may
 took key s d (m.Repair tag at epoch stamp value) sent is may = absurd may
 took key s d (m.Confirm tag at stamp) sent is may = absurd may
 took key s d (m.Freeze tag at epoch) sent is may =
-    by_freeze tag epoch (subst (λ (x : KeyId). Contains s.sent (record { to = to.Replica d; message = m.Freeze tag x epoch })) (same_at at key is) sent) refl
+    by_freeze tag epoch (subst (λ (x : KeyId). Contains s.sent (record { to = to.Replica d; message = m.Freeze tag x epoch })) (same_Some at key is) sent) refl
 took key s d (m.Seed tag at epoch stamp value) sent is may = still_frozen (merge_frozen (kept_of s d key) stamp value epoch (is_over (kept_of s d key) epoch) (is_gt (stamp_cmp stamp (kept_of s d key).version)) refl refl)
 took key s d (m.Push tag at stamp onward value) sent is may = still_frozen (merge_frozen (kept_of s d key) stamp value stamp.epoch (is_over (kept_of s d key) stamp.epoch) (is_gt (stamp_cmp stamp (kept_of s d key).version)) refl refl)
 took key s d (m.Lookup tag at) sent is may = still_frozen refl

@@ -1,10 +1,9 @@
 -- What is held in an epoch is held in each later one that has been current.
-use Rattle.std.proofs.Common.{◌≡◌, inl, inr, ℕ, ◌+◌, ◌≤◌, Bool, true, false, List, [], ◌∷◌, refl, subst, arith}
+use Rattle.std.proofs.Common.{◌≡◌, inl, inr, ℕ, ◌+◌, ◌≤◌, Bool, true, false, List, [], ◌∷◌, refl, subst, arith, ltb-false}
 use Rattle.std.proofs.lemmas.Bool.{and_from}
 use Rattle.register_law.proofs.Words.{and_left, and_right, IsAtMost-refl}
 use Rattle.std.specs.Prelude.{nat_lt, if◌then◌else◌, Contains}
 use Rattle.std.specs.List.{range_with_len}
-use Rattle.std.proofs.lemmas.Grind.{common_steps}
 use Rattle.span_base.specs.DcSet.{has}
 use Rattle.span_base.specs.declared.ids.KeyId.{KeyId}
 use Rattle.ticket_rules.specs.declared.stamp.Stamp.{Stamp}
@@ -80,9 +79,6 @@ before_is_below : (b : Bool) (version fixed stamp : Stamp) → (b ≡ false → 
 before_is_below true version fixed stamp f own h = h
 before_is_below false version fixed stamp f own h = at_most_trans stamp fixed version h (at_most_test fixed version (f refl))
 
-frozen_for : (f e : ℕ) → nat_lt f e ≡ false → e ≤ f
-frozen_for f e h = grind (arith, common_steps)
-
 -- what was held before the freeze is held now
 pub held_now : (key : KeyId) (s : Store) (g : Ghost) (epoch : ℕ) (stamp : Stamp) → ((d e : ℕ) → e ≤ (kept_of s d key).frozen → IsAtMost (g.fixed d e) (kept_of s d key).version) → IsHeld key s g epoch stamp
     → faults_of (policy_of s key epoch) + 1 ≤ count_of (both (has (replicas_of (policy_of s key epoch))) (λ d. is_at_most stamp (kept_of s d key).version))
@@ -90,6 +86,6 @@ held_now key s g epoch stamp fixed h =
     let w : ℕ → Bool = has (replicas_of (policy_of s key epoch)) in
     let more = count_mono (both w (λ d. is_at_most stamp (version_before key s g d epoch))) (both w (λ d. is_at_most stamp (kept_of s d key).version))
     (λ d k. and_from (w d) (is_at_most stamp (kept_of s d key).version) (and_left (w d) (is_at_most stamp (version_before key s g d epoch)) k)
-    (before_is_below (nat_lt (kept_of s d key).frozen epoch) (kept_of s d key).version (g.fixed d epoch) stamp (λ no. fixed d epoch (frozen_for (kept_of s d key).frozen epoch no)) (IsAtMost-refl (kept_of s d key).version)
+    (before_is_below (nat_lt (kept_of s d key).frozen epoch) (kept_of s d key).version (g.fixed d epoch) stamp (λ no. fixed d epoch (ltb-false (kept_of s d key).frozen epoch no)) (IsAtMost-refl (kept_of s d key).version)
     (and_right (w d) (is_at_most stamp (version_before key s g d epoch)) k))) (range_with_len 0 16) in
     omega arith

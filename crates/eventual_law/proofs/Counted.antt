@@ -1,11 +1,10 @@
 -- What the answers that count for a put or a move of an eventual key come to.
-use Rattle.std.proofs.Common.{◌≡◌, inl, inr, ℕ, ◌+◌, ◌≤◌, Bool, true, false, List, refl, sym, subst, arith, eqb-true}
+use Rattle.std.proofs.Common.{◌≡◌, inl, inr, ℕ, ◌+◌, ◌≤◌, Bool, true, false, List, refl, sym, subst, eqb-true}
 use Rattle.std.proofs.lemmas.Bool.{and_from}
 use Rattle.register_law.proofs.Words.{has-insert_cases, IsAtMost-refl}
 use Rattle.std.specs.Prelude.{◌==◌, nat_le, if◌then◌else◌, length, Option, Some, None}
 use Rattle.std.specs.List.{range_with_len}
 use Rattle.std.specs.Ordering.{is_gt}
-use Rattle.std.proofs.lemmas.Grind.{common_steps}
 use Rattle.span_base.specs.DcSet.{has, bits_of, centres_of, centres_below}
 use Rattle.span_base.specs.PolicyParts.{faults_of, replicas_of}
 use Rattle.span_base.specs.declared.ids.DcId.{DcId}
@@ -30,9 +29,8 @@ use Rattle.register_law.proofs.Quorums.{at_most_test, count_mono}
 use Rattle.register_law.proofs.MovesStep.{counts_own, counts_asked}
 use Rattle.eventual_law.specs.Told.{EventualAnswersTell}
 use Rattle.eventual_law.specs.Held.{is_replica, IsHeld, AreFrozen, IsFrozenWith, FreezingHeld}
-
-at_least : (a b c : ℕ) → nat_le a b ≡ true → b ≤ c → a ≤ c
-at_least a b c h k = grind (arith, common_steps)
+use Rattle.register_law.proofs.MovesTook.{not_gt, gt_below, at_least}
+use Rattle.std.proofs.lemmas.Option.{same_Some}
 
 -- f + 1 that counted, all of them replicas of the policy that have the stamp
 pub held_by : (key : KeyId) (s : Store) (g : Ghost) (epoch f : ℕ) (stamp : Stamp) (good : DcSet) → f ≡ faults_of (policy_of s key epoch) → nat_le (f + 1) (length (centres_of good)) ≡ true
@@ -55,31 +53,22 @@ all_counted phase all d there =
     let same : phase.good.bits ≡ phase.asked.bits = eqb-true phase.good.bits phase.asked.bits all in
     subst (λ n. has (record { bits = n }) d ≡ true) (sym same) there
 
-above_both : (one other : Stamp) → is_gt (stamp_cmp one other) ≡ true → IsAtMost other one
-above_both one other h = grind (arith, common_steps)
-
-not_above : (one other : Stamp) → is_gt (stamp_cmp one other) ≡ false → IsAtMost one other
-not_above one other h = grind (arith, common_steps)
-
-found_same : (a b : Found) → Some a ≡ Some b → a ≡ b
-found_same a b e = cc
-
 -- the greatest of what was found is at least what came now, and what was found before
 better_above : (best : Option Found) (version : Stamp) (value : List ℕ) (found : Found) → better best version value ≡ Some found → IsAtMost version found.stamp × ((was : Found) → best ≡ Some was → IsAtMost was.stamp found.stamp)
 better_above None version value found e =
-    (subst (λ (x : Found). IsAtMost version x.stamp) (found_same (record { stamp = version; value = value }) found e) (IsAtMost-refl version), λ was is. absurd (cc))
+    (subst (λ (x : Found). IsAtMost version x.stamp) (same_Some (record { stamp = version; value = value }) found e) (IsAtMost-refl version), λ was is. absurd (cc))
 better_above (Some old) version value found e = by (is_gt (stamp_cmp version old.stamp)) refl e
   where
     old_is : (now : Found) → IsAtMost old.stamp now.stamp → (was : Found) → Some old ≡ Some was → IsAtMost was.stamp now.stamp
-    old_is now le was is = subst (λ (x : Found). IsAtMost x.stamp now.stamp) (found_same old was is) le
+    old_is now le was is = subst (λ (x : Found). IsAtMost x.stamp now.stamp) (same_Some old was is) le
 
     by : (b : Bool) → is_gt (stamp_cmp version old.stamp) ≡ b → (if b then Some (record { stamp = version; value = value }) else Some old) ≡ Some found → IsAtMost version found.stamp × ((was : Found) → Some old ≡ Some was → IsAtMost was.stamp found.stamp)
     by true is z =
-        subst (λ (x : Found). IsAtMost version x.stamp × ((was : Found) → Some old ≡ Some was → IsAtMost was.stamp x.stamp)) (found_same (record { stamp = version; value = value }) found z)
-        (IsAtMost-refl version, old_is (record { stamp = version; value = value }) (above_both version old.stamp is))
+        subst (λ (x : Found). IsAtMost version x.stamp × ((was : Found) → Some old ≡ Some was → IsAtMost was.stamp x.stamp)) (same_Some (record { stamp = version; value = value }) found z)
+        (IsAtMost-refl version, old_is (record { stamp = version; value = value }) (gt_below version old.stamp is))
     by false is z =
-        subst (λ (x : Found). IsAtMost version x.stamp × ((was : Found) → Some old ≡ Some was → IsAtMost was.stamp x.stamp)) (found_same old found z)
-        (not_above version old.stamp is, old_is old (IsAtMost-refl old.stamp))
+        subst (λ (x : Found). IsAtMost version x.stamp × ((was : Found) → Some old ≡ Some was → IsAtMost was.stamp x.stamp)) (same_Some old found z)
+        (not_gt version old.stamp is, old_is old (IsAtMost-refl old.stamp))
 
 with_better : (key : KeyId) (s : Store) (g : Ghost) (d epoch : ℕ) (best : Option Found) (version : Stamp) (value : List ℕ) (found : Found) → better best version value ≡ Some found → IsFrozenWith key s g d epoch best → IsFrozenWith key s g d epoch (Some found)
 with_better key s g d epoch best version value found e was =

@@ -1,5 +1,5 @@
 -- What becomes of a message in the event that delivers it.
-use Rattle.std.proofs.Common.{◌≡◌, ◌⊎◌, inl, inr, ℕ, ◌<◌, ◌≤◌, Bool, true, false, List, [], ◌++◌, refl, sym, ap, ◌∙◌, subst, arith}
+use Rattle.std.proofs.Common.{◌≡◌, ◌⊎◌, inl, inr, ℕ, ◌<◌, ◌≤◌, Bool, true, false, List, [], ◌++◌, refl, sym, ap, ◌∙◌, subst}
 use Rattle.std.specs.Prelude.{length, slice_get, Option, Some, None, Ok, Err, Contains, if◌then◌else◌}
 use Rattle.std.specs.Option.{option_map_or}
 use Rattle.std.proofs.lemmas.Option.{slice_get_within, get_or_from_slice_get}
@@ -9,7 +9,7 @@ use Rattle.span_base.proofs.Sets.{Contains-centres_of}
 use Rattle.span_base.specs.declared.ids.KeyId.{KeyId}
 use Rattle.span_base.specs.declared.dc_set.DcSet.{DcSet}
 use Rattle.ticket_rules.specs.declared.stamp.Stamp.{Stamp}
-use Rattle.ticket_rules.specs.Stamp.{IsAtMost, stamp_cmp}
+use Rattle.ticket_rules.specs.Stamp.{IsAtMost}
 use Rattle.wire_msg.specs.declared.tag.Tag.{Tag}
 use Rattle.wire_msg.specs.declared.actor.Actor.{Actor}
 use Rattle.wire_msg.specs.declared.message.Message.{Message}
@@ -42,26 +42,17 @@ use Rattle.register_law.specs.Cases.{Happened, CallTook, next_call}
 use Rattle.register_law.proofs.EndsKinds.{taken_key}
 use Rattle.register_law.proofs.ReplicasKept.{became_by}
 use Rattle.register_law.proofs.TagsCalls.{LiveIs, was_live, begins, went_on, LivesOn, live_after, lives_on, started_opens, next_is_none}
-use Rattle.register_law.proofs.WaitingMeets.{takes_it, lives_somewhere}
+use Rattle.register_law.proofs.WaitingMeets.{takes_it, lives_somewhere, handles_after}
 use Rattle.register_order.proofs.Members.{Contains-here}
 use Rattle.eventual_law.specs.Held.{InvOfEventual}
 use Rattle.eventual_law.specs.Quiet.{handle_of, HasPushed, ByReplica, ByProxy, HasCounted, WasTaken, IsDone, MovesGoOn}
 use Rattle.eventual_law.proofs.GreatestStep.{Makes, either_makes, sends_makes, runs_there}
 use Rattle.eventual_law.proofs.HasCounted.{counts_now}
-use Rattle.eventual_law.proofs.QuietKept.{over_is, handles_after}
+use Rattle.eventual_law.proofs.QuietKept.{over_is}
 use Rattle.eventual_law.proofs.DoneKept.{own_phase, call_same}
 use Rattle.eventual_law.proofs.Stopped.{proxy_stays_stopped, sent_gets}
 use Rattle.eventual_law.proofs.Lists.{into_map}
-use Rattle.std.proofs.lemmas.Grind.{common_steps}
-use Rattle.std.specs.Ordering.{is_gt}
-
--- what is merged is at least the stamp
-merged_has : (kept : Kept) (stamp : Stamp) (value : List ℕ) → IsAtMost stamp (merge kept stamp value).version
-merged_has kept stamp value = by (is_gt (stamp_cmp stamp kept.version)) refl
-  where
-    by : (b : Bool) → is_gt (stamp_cmp stamp kept.version) ≡ b → IsAtMost stamp (if b then record kept { version = stamp; value = value } else kept).version
-    by true e = grind (arith, common_steps)
-    by false e = grind (arith, common_steps)
+use Rattle.register_law.proofs.AnswersTold.{merged_has}
 
 -- the state after a replica took a message
 after : Store → ℕ → Message → Store

@@ -22,7 +22,7 @@ use Rattle.register_law.proofs.OpeningHolds.{current_is}
 use Rattle.register_law.proofs.Basics.{WasPosted, sent_cases}
 use Rattle.register_order.proofs.Members.{among, none_among, Contains-there}
 use Rattle.register_law.proofs.OpeningsCurrent.{CurrentAfter, same_current, switched, current_after, keys_stay}
-use Rattle.register_law.proofs.OpeningsKept.{longer, newest_after}
+use Rattle.register_law.proofs.OpeningsKept.{longer, newest_after, newest_opened}
 use Rattle.register_law.proofs.OpeningsTold.{here_now, told_now}
 use Rattle.register_law.proofs.TagsSent.{was_sent_stays}
 use Rattle.eventual_law.specs.Keys.{IsEventualKey}
@@ -60,10 +60,6 @@ published_after key s g h k is (switched tag closing next sent can now) false t 
       | inl new ↦ (let later = can.later in let last = can.published in (omega arith, omega arith))
       | inr old ↦ (let out = k.published e old in let last = out.1 in (out.0, omega arith))
     ]
-
-pub newest_opened : (epoch : ℕ) (opened : List ℕ) → IsNewest epoch opened → Contains opened epoch
-newest_opened epoch [] newest = absurd newest
-newest_opened epoch (e ∷ rest) newest = (0, omega arith, newest)
 
 opened_stays : (b : Bool) (opened : List ℕ) (new e : ℕ) → Contains opened e → Contains (if b then opened else new ∷ opened) e
 opened_stays true opened new e c = c

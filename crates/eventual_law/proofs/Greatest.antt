@@ -22,6 +22,8 @@ use Rattle.register_law.proofs.Basics.{key_is}
 use Rattle.register_order.proofs.Stamps.{IsAtMost-trans}
 use Rattle.eventual_law.specs.Pushes.{IsGreatest, push_if, pushed_by}
 use Rattle.eventual_law.specs.Kinds.{MayAskEventual}
+use Rattle.register_law.proofs.Words.{IsAtMost-refl}
+use Rattle.register_law.proofs.MovesTook.{not_gt}
 
 -- the greatest push is kept
 abbrev pub KeepsGreatest : List Found → Kept → Type 0
@@ -31,17 +33,11 @@ KeepsGreatest all kept = IsGreatest all kept.version kept.value
 pub none_more : (all : List Found) (kept : Kept) → KeepsGreatest all kept → KeepsGreatest (all ++ []) kept
 none_more all kept h = subst (λ (x : List Found). KeepsGreatest x kept) (sym (append-nil all)) h
 
-at_most_itself : (t : Stamp) → IsAtMost t t
-at_most_itself t = grind (arith, common_steps)
-
 above_it : (b c : Stamp) → is_gt (stamp_cmp c b) ≡ true → IsAtMost b c
 above_it b c k = grind (arith, common_steps)
 
 over_it : (a b c : Stamp) → IsAtMost a b → is_gt (stamp_cmp c b) ≡ true → IsAtMost a c
 over_it a b c h k = IsAtMost-trans a b c h (above_it b c k)
-
-not_over : (a b : Stamp) → is_gt (stamp_cmp a b) ≡ false → IsAtMost a b
-not_over a b h = grind (arith, common_steps)
 
 merged : (all : List Found) (kept : Kept) (stamp : Stamp) (value : List ℕ) (b : Bool) → is_gt (stamp_cmp stamp kept.version) ≡ b → KeepsGreatest all kept
     → KeepsGreatest (all ++ record { stamp = stamp; value = value } ∷ []) (if b then record kept { version = stamp; value = value } else kept)
@@ -49,7 +45,7 @@ merged all kept stamp value true is h = record {
   is_one = inr (Contains-append_right all (record { stamp = stamp; value = value } ∷ []) (record { stamp = stamp; value = value }) (0, omega arith, refl));
   greatest = λ push c. elim (Contains-append_cases all (record { stamp = stamp; value = value } ∷ []) push c) as (λ _. IsAtMost push.stamp stamp) [
     | inl old ↦ over_it push.stamp kept.version stamp (h.greatest push old) is
-    | inr new ↦ elim (among (record { stamp = stamp; value = value }) [] push new) as (λ _. IsAtMost push.stamp stamp) [ inl same ↦ subst (λ (x : Found). IsAtMost x.stamp stamp) (sym same) (at_most_itself stamp) | inr more ↦ absurd (none_among push more) ]
+    | inr new ↦ elim (among (record { stamp = stamp; value = value }) [] push new) as (λ _. IsAtMost push.stamp stamp) [ inl same ↦ subst (λ (x : Found). IsAtMost x.stamp stamp) (sym same) (IsAtMost-refl stamp) | inr more ↦ absurd (none_among push more) ]
   ];
 }
 merged all kept stamp value false is h = record {
@@ -59,7 +55,7 @@ merged all kept stamp value false is h = record {
   ];
   greatest = λ push c. elim (Contains-append_cases all (record { stamp = stamp; value = value } ∷ []) push c) as (λ _. IsAtMost push.stamp kept.version) [
     | inl old ↦ h.greatest push old
-    | inr new ↦ elim (among (record { stamp = stamp; value = value }) [] push new) as (λ _. IsAtMost push.stamp kept.version) [ inl same ↦ subst (λ (x : Found). IsAtMost x.stamp kept.version) (sym same) (not_over stamp kept.version is) | inr more ↦ absurd (none_among push more) ]
+    | inr new ↦ elim (among (record { stamp = stamp; value = value }) [] push new) as (λ _. IsAtMost push.stamp kept.version) [ inl same ↦ subst (λ (x : Found). IsAtMost x.stamp kept.version) (sym same) (not_gt stamp kept.version is) | inr more ↦ absurd (none_among push more) ]
   ];
 }
 

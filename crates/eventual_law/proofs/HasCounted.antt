@@ -2,7 +2,6 @@
 use Rattle.std.proofs.Common.{◌≡◌, ℕ, ◌+◌, ◌<◌, Bool, true, false, List, refl, sym, ap, subst, arith}
 use Rattle.register_law.proofs.Words.{has-insert_stays}
 use Rattle.std.specs.Prelude.{max, if◌then◌else◌, Option, Some, None}
-use Rattle.std.proofs.lemmas.Bool.{eq-eqb}
 use Rattle.span_base.specs.DcSet.{has}
 use Rattle.span_base.proofs.Sets.{has-below, has-insert_same}
 use Rattle.span_base.specs.declared.ids.DcId.{DcId}
@@ -27,13 +26,10 @@ use Rattle.migration.specs.Move as move
 use Rattle.register_law.proofs.MovesStep.{MoveTook, unheard, was_current, froze_first, froze_one, froze_all, seeded_next, seeded_all, was_refused, was_stale, arrived, counts_asked}
 use Rattle.register_law.proofs.MovesTook.{better_some}
 use Rattle.eventual_law.specs.Quiet.{HasCounted, IsOpenStill}
-
--- the tags are one
-itself : (tag : Tag) → is_same_tag tag tag ≡ true
-itself tag = rw (eq-eqb tag.call.proxy tag.call.proxy refl, eq-eqb tag.call.seq tag.call.seq refl, eq-eqb tag.slot tag.slot refl, eq-eqb tag.generation tag.generation refl, eq-eqb tag.phase tag.phase refl) refl
+use Rattle.call_phase.proofs.Tags.{is_same_tag-refl}
 
 same_is : (a b : Tag) → a ≡ b → is_same_tag a b ≡ true
-same_is a b e = subst (λ (x : Tag). is_same_tag a x ≡ true) e (itself a)
+same_is a b e = subst (λ (x : Tag). is_same_tag a x ≡ true) e (is_same_tag-refl a)
 
 -- an answer of the phase's own that doesn't count has counted, where none refused
 counted_before : (phase : Phase) (tag : Tag) (replica : DcId) → phase.tag ≡ tag → counts phase tag replica ≡ false → has phase.bad replica.0 ≡ false → has phase.asked replica.0 ≡ true → has phase.good replica.0 ≡ true

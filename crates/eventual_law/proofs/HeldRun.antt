@@ -1,11 +1,7 @@
 -- After every run all holds that the laws over epochs rest on.
-use Rattle.std.proofs.Common.{◌≡◌, inl, ℕ, ◌+◌, ◌<◌, true, List, [], ◌∷◌, zero, suc, refl, sym, ap, ◌∙◌, subst, arith}
-use Rattle.std.specs.Prelude.{length, map, slice_index_or, Contains}
-use Rattle.std.specs.List.{range_with_len}
-use Rattle.span_base.specs.declared.ids.DcId.{DcId}
+use Rattle.std.proofs.Common.{◌≡◌, inl, ◌<◌, true, List, [], ◌∷◌, refl, sym, subst, arith}
+use Rattle.std.specs.Prelude.{length, Contains}
 use Rattle.span_base.specs.declared.ids.KeyId.{KeyId}
-use Rattle.span_base.specs.declared.ids.SetId.{SetId}
-use Rattle.span_base.specs.declared.policy.Policy.{Policy}
 use Rattle.wire_msg.specs.declared.outputs.View.{View}
 use Rattle.wire_msg.specs.declared.actor.Actor.TheVariants as to
 use Rattle.wire_msg.specs.declared.message.Message.TheVariants as m
@@ -14,7 +10,7 @@ use Rattle.run_marks.specs.declared.mark.Mark.TheVariants as k
 use Rattle.world_core.specs.declared.event.Event.{Event}
 use Rattle.world_core.specs.declared.event.Header.{Header}
 use Rattle.world_core.specs.declared.live.LiveCall.TheVariants.{Eventual, EventualMove}
-use Rattle.world_core.specs.State.{Store, opening, opening_view, opening_proxy, no_proxy, no_view, proxy_at, view_at, policy_of}
+use Rattle.world_core.specs.State.{Store, opening, opening_proxy, policy_of}
 use Rattle.world_core.specs.Step.{Happening}
 use Rattle.world_core.specs.Run.{MayRun, run_of}
 use Rattle.register_law.specs.Ghost.{Ghost, noted_of, first_ghost, history}
@@ -36,6 +32,7 @@ use Rattle.eventual_law.proofs.Reached.{reached_kept}
 use Rattle.eventual_law.proofs.StoredHeld.{marks_kept, stored_kept}
 use Rattle.eventual_law.proofs.Views.{views_kept}
 use Rattle.register_law.proofs.Words.{length-map}
+use Rattle.register_law.proofs.OpeningHolds.{view_is}
 
 pub grows_by : (key : KeyId) (s : Store) (g : Ghost) (h : Happening) → Happened s h → InvOfEventual key s g → Grows key s g h.store (noted_of key s h g)
 grows_by key s g h is inv = step_grows key s g h is (λ call some. let b = inv.marks.noted call some in inv.known.calls.begun call key b.0 b.1)
@@ -55,22 +52,6 @@ inv_kept key s g h is inv =
       moves = moves_kept key s g h inv grows is;
       versions = reached_kept key s g h is inv grows (keys_kept s h g.marks is inv.known.kinds.tags inv.known.calls);
     }
-
-in_views : (sets : List Policy) (keys : List SetId) (n start i : ℕ) → i < n → slice_index_or (map (opening_view sets keys) (range_with_len start n)) i no_view ≡ opening_view sets keys (start + i)
-in_views sets keys zero start i lt = absurd (omega (arith, lt))
-in_views sets keys (suc n) start zero lt = ap (opening_view sets keys) (omega arith)
-in_views sets keys (suc n) start (suc i) lt =
-    let there : slice_index_or (map (opening_view sets keys) (range_with_len (start + 1) n)) i no_view ≡ opening_view sets keys (start + 1 + i) = in_views sets keys n (start + 1) i (omega arith) in
-    there ∙ ap (opening_view sets keys) (omega arith)
-
-view_is : (header : Header) (key : KeyId) (p : ℕ) → key.0 < length header.keys → p < length header.proxies → view_at (proxy_at (opening header) p).views key ≡ opening_view header.sets header.keys key.0
-unfolding opening
-view_is header key p lk lp = at header.proxies p lp
-  where
-    at : (xs : List DcId) (i : ℕ) → i < length xs → view_at (slice_index_or (map (opening_proxy header) xs) i no_proxy).views key ≡ opening_view header.sets header.keys key.0
-    at [] i lt = absurd (omega (arith, lt))
-    at (x ∷ xs) zero lt = in_views header.sets header.keys (length header.keys) 0 key.0 lk ∙ ap (opening_view header.sets header.keys) (omega arith)
-    at (x ∷ xs) (suc i) lt = at xs i (omega arith)
 
 views_first : (header : Header) (key : KeyId) → IsEventualKey header key.0 → KnowsOpened key (opening header) first_ghost
 unfolding opening

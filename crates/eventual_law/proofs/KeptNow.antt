@@ -1,8 +1,7 @@
 -- Where a version of an eventual key that a replica keeps after an event comes from: it was kept before, a seed or a push brought it.
-use Rattle.std.proofs.Common.{◌≡◌, inl, inr, ℕ, ◌<◌, Bool, true, false, List, refl, sym, ap, subst, arith}
+use Rattle.std.proofs.Common.{◌≡◌, inl, inr, ℕ, ◌<◌, Bool, true, false, List, refl, sym, ap, subst}
 use Rattle.std.specs.Prelude.{Some, Contains}
 use Rattle.std.specs.Ordering.{is_gt}
-use Rattle.std.proofs.lemmas.Grind.{common_steps}
 use Rattle.span_base.specs.declared.ids.KeyId.{KeyId}
 use Rattle.span_base.specs.declared.dc_set.DcSet.{DcSet}
 use Rattle.ticket_rules.specs.declared.stamp.Stamp.{Stamp}
@@ -20,6 +19,8 @@ use Rattle.register_law.specs.Seen.{WasSent}
 use Rattle.register_law.specs.Cases.{Happened}
 use Rattle.register_law.proofs.Kept.{KeptIs, kept_cases, is_request}
 use Rattle.eventual_law.specs.Kinds.{MayAskEventual, KeyIsEventual}
+use Rattle.std.proofs.lemmas.Option.{same_Some}
+use Rattle.register_law.proofs.AnswersTold.{still_open}
 
 pub data KeptNow (key : KeyId) (s : Store) (d : ℕ) (new : Kept) : Type 0 where
   kept_still : new.version ≡ (kept_of s d key).version → new.value ≡ (kept_of s d key).value → KeptNow key s d new
@@ -31,12 +32,6 @@ merged X kept stamp value epoch true above a b was new = rw a was
 merged X kept stamp value epoch false true a b was new = rw (a, b) (new a)
 merged X kept stamp value epoch false false a b was new = rw (a, b) was
 
-open_still : (kept : Kept) (epoch : ℕ) → is_over kept epoch ≡ false → kept.frozen < epoch
-open_still kept epoch h = grind (arith, common_steps)
-
-pub same_at : (one key : KeyId) → Some one ≡ Some key → one ≡ key
-same_at one key e = cc
-
 took : (key : KeyId) (s : Store) (d : ℕ) (message : Message) → Contains s.sent (record { to = to.Replica d; message = message }) → key_of message ≡ Some key → MayAskEventual message → KeptNow key s d (kept_after (kept_of s d key) message)
 took key s d (m.Read tag at epoch) sent is may = kept_still refl refl
 took key s d (m.Ask tag at stamp) sent is may = absurd may
@@ -46,10 +41,10 @@ took key s d (m.Confirm tag at stamp) sent is may = absurd may
 took key s d (m.Freeze tag at epoch) sent is may = kept_still refl refl
 took key s d (m.Seed tag at epoch stamp value) sent is may =
     merged (KeptNow key s d) (kept_of s d key) stamp value epoch (is_over (kept_of s d key) epoch) (is_gt (stamp_cmp stamp (kept_of s d key).version)) refl refl (kept_still refl refl)
-    (λ _. by_seed tag epoch stamp value (to.Replica d, subst (λ (x : KeyId). Contains s.sent (record { to = to.Replica d; message = m.Seed tag x epoch stamp value })) (same_at at key is) sent) refl refl)
+    (λ _. by_seed tag epoch stamp value (to.Replica d, subst (λ (x : KeyId). Contains s.sent (record { to = to.Replica d; message = m.Seed tag x epoch stamp value })) (same_Some at key is) sent) refl refl)
 took key s d (m.Push tag at stamp onward value) sent is may =
     merged (KeptNow key s d) (kept_of s d key) stamp value stamp.epoch (is_over (kept_of s d key) stamp.epoch) (is_gt (stamp_cmp stamp (kept_of s d key).version)) refl refl (kept_still refl refl)
-    (λ o. by_push tag stamp onward value (subst (λ (x : KeyId). Contains s.sent (record { to = to.Replica d; message = m.Push tag x stamp onward value })) (same_at at key is) sent) (open_still (kept_of s d key) stamp.epoch o) refl refl)
+    (λ o. by_push tag stamp onward value (subst (λ (x : KeyId). Contains s.sent (record { to = to.Replica d; message = m.Push tag x stamp onward value })) (same_Some at key is) sent) (still_open (kept_of s d key) stamp.epoch o) refl refl)
 took key s d (m.Lookup tag at) sent is may = kept_still refl refl
 took key s d (m.Switch tag at old new) sent is may = kept_still refl refl
 took key s d (m.Have tag replica version mark value) sent is may = kept_still refl refl

@@ -1,6 +1,6 @@
 -- Every event keeps what the moves of an eventual key, and what they ask, rest on.
-use Rattle.std.proofs.Common.{◌≡◌, ◌⊎◌, inl, inr, ℕ, ◌+◌, ◌<◌, Bool, true, false, List, ◌∷◌, refl, sym, ap, ◌∙◌, subst, arith, eqb-true}
-use Rattle.std.specs.Prelude.{◌==◌, if◌then◌else◌, Contains}
+use Rattle.std.proofs.Common.{◌≡◌, ◌⊎◌, inl, inr, ℕ, ◌+◌, Bool, true, List, refl, sym, ap, ◌∙◌, subst, arith}
+use Rattle.std.specs.Prelude.{◌==◌, Contains}
 use Rattle.span_base.specs.DcSet.{no_centre}
 use Rattle.span_base.specs.declared.ids.Call.{Call}
 use Rattle.span_base.specs.declared.ids.KeyId.{KeyId}
@@ -47,6 +47,7 @@ use Rattle.eventual_law.proofs.Shapes.{both_new}
 use Rattle.eventual_law.proofs.HeldStays.{move_stays, switch_stays, done_stays}
 use Rattle.eventual_law.proofs.MovesNow.{moved_now, freezing_at, seeding_at, switch_now}
 use Rattle.register_law.proofs.MovesKept.{posted}
+use Rattle.register_law.proofs.OpeningsKept.{opened_now}
 
 -- of a live move after an event
 begun_looks : (key : KeyId) (z : Store) (h : Ghost) (call : Moving) → call.stage ≡ Looking → call.phase.tag.phase ≡ 1 → IsHeldMove key z h call.phase call.stage
@@ -148,10 +149,6 @@ switches_now key s g h inv tag old new (moves p taken call took (switches was ta
 switch_after : (key : KeyId) (s : Store) (g : Ghost) (h : Happening) → InvOfEventual key s g → Happened s h → (tag : Tag) (old new : ℕ) → WasSent s (m.Switch tag key old new) ⊎ WasPosted h (m.Switch tag key old new) → SwitchHeld key s g tag.call old new
 switch_after key s g h inv is tag old new (inl was) = inv.moves.switch_sent tag old new was
 switch_after key s g h inv is tag old new (inr now) = switches_now key s g h inv tag old new (sends key s h (m.Switch tag key old new) is inv.known.kinds now refl)
-
-opened_now : (old new : ℕ) (opened : List ℕ) (b : Bool) → (new == old) ≡ b → old < new → Contains (if b then opened else new ∷ opened) new
-opened_now old new opened true e lt = absurd (let same = eqb-true new old e in omega arith)
-opened_now old new opened false e lt = (0, omega arith, refl)
 
 done_now : (key : KeyId) (s : Store) (g : Ghost) (h : Happening) → InvOfEventual key s g → Grows key s g h.store (noted_of key s h g) → (tag : Tag) → SwitchedNow s h tag key true → WasDone key h.store (noted_of key s h g) tag
 done_now key s g h inv grows tag now =

@@ -1,8 +1,7 @@
 -- What a move of an eventual key goes on to rests on what it should.
-use Rattle.std.proofs.Common.{◌≡◌, ℕ, ◌+◌, ◌<◌, ◌≤◌, true, false, [], refl, sym, ap, ◌∙◌, subst, arith}
+use Rattle.std.proofs.Common.{◌≡◌, ℕ, ◌+◌, true, false, [], refl, sym, ap, ◌∙◌, subst, arith}
 use Rattle.register_law.proofs.Words.{none_in}
 use Rattle.std.specs.Prelude.{◌==◌, Option, None, Contains}
-use Rattle.std.proofs.lemmas.Grind.{common_steps}
 use Rattle.span_base.specs.DcSet.{has}
 use Rattle.span_base.specs.PolicyParts.{faults_of, replicas_of}
 use Rattle.span_base.specs.declared.ids.DcId.{DcId}
@@ -44,9 +43,7 @@ use Rattle.eventual_law.specs.Epochs.{HereIs}
 use Rattle.eventual_law.specs.Held.{SwitchHeld, IsFrozenWith, FreezingHeld, SeedingHeld, IsHeldMove, InvOfEventual}
 use Rattle.eventual_law.proofs.Counted.{held_by, one_more, froze_counted, all_frozen}
 use Rattle.eventual_law.proofs.HeldStays.{frozen_stay, switch_stays, move_stays, seeding_stays, freezing_stays}
-
-later_than : (a b : ℕ) → a ≤ b → (a == b) ≡ false → a < b
-later_than a b le h = grind (arith, common_steps)
+use Rattle.register_law.proofs.MovesBacked.{not_equal}
 
 -- what was posted was sent
 abbrev pub ArePosted : Store → Step Moving → Type 0
@@ -79,7 +76,7 @@ froze_now key s g z h inv grows p handle call live at_key tag at epoch latest_ep
     let b = here_is key s g inv p handle call live at_key tag at epoch latest_epoch policy latest_policy sent own in
     let out = inv.epochs.published epoch b.opened in
     let first : call.phase.tag.phase ≡ 1 = subst (IsHeldMove key s g call.phase) stage (inv.moves.live p handle call live at_key) in
-    let target : IsTargetOf key s g epoch (epoch_at latest_epoch latest_policy) = record { opened = b.opened; later = later_than epoch latest_epoch b.within.0 different; published = b.within.1; policy = b.newest_is } in
+    let target : IsTargetOf key s g epoch (epoch_at latest_epoch latest_policy) = record { opened = b.opened; later = not_equal epoch latest_epoch b.within.0 different; published = b.within.1; policy = b.newest_is } in
     record {
       second = next_phase call.phase.tag 1 first;
       target = target_stays key s g z h epoch (epoch_at latest_epoch latest_policy) grows target;

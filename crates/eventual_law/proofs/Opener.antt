@@ -1,9 +1,8 @@
 -- The move that opened the current epoch of an eventual key is the one whose Switch was done last.
 use Rattle.std.proofs.Common.{◌≡◌, ◌⊎◌, inl, inr, ℕ, ◌<◌, Bool, true, false, List, [], ◌∷◌, zero, suc, refl, sym, ap, ◌∙◌, subst, arith, ◌≢◌}
 use Rattle.std.specs.Prelude.{◌+◌, ◌==◌, ◌&&◌, not, nat_lt, if◌then◌else◌, length, slice_set, slice_index, slice_get, Option, Some, None, Ok, Err}
-use Rattle.std.proofs.lemmas.Grind.{common_steps}
 use Rattle.std.specs.Option.{option_map_or}
-use Rattle.std.proofs.lemmas.Bool.{eq-eqb, eqb-true}
+use Rattle.std.proofs.lemmas.Bool.{eq-eqb, eqb-true, eqb-false}
 use Rattle.std.proofs.lemmas.Option.{slice_get_within, get_or_from_slice_get}
 use Rattle.span_base.specs.declared.ids.Call.{Call}
 use Rattle.span_base.specs.declared.ids.KeyId.{KeyId}
@@ -68,9 +67,6 @@ other_place (x ∷ xs) zero (suc j) y h = refl
 other_place (x ∷ xs) (suc i) zero y h = refl
 other_place (x ∷ xs) (suc i) (suc j) y h = other_place xs i j y (λ e. h (ap suc e))
 
-apart : (i j : ℕ) → (i == j) ≡ false → i ≢ j
-apart i j h e = grind (arith, common_steps)
-
 -- the directory takes a Switch
 at_switch : (key : KeyId) (s : Store) (last : Option Call) (tag : Tag) (at : KeyId) (old new : ℕ) → key.0 < length s.directory.current → WasSent s (m.Switch tag at old new) → (z : Store) → z.directory ≡ after_switch s.directory at old new → Opens key s last (switched_by key s (m.Switch tag at old new) last) z
 at_switch key s last tag at old new exists sent z is = by (at.0 == key.0) refl (can_switch s.directory at old new) refl
@@ -79,7 +75,7 @@ at_switch key s last tag at old new exists sent z is = by (at.0 == key.0) refl (
     by false e can c = inl (ap (λ (x : State). current_of x key) is ∙ other can c, refl)
       where
         other : (b : Bool) → can_switch s.directory at old new ≡ b → current_of (after_switch s.directory at old new) key ≡ current_of s.directory key
-        other true d = rw d (other_place s.directory.current at.0 key.0 new (apart at.0 key.0 e))
+        other true d = rw d (other_place s.directory.current at.0 key.0 new (eqb-false at.0 key.0 e))
         other false d = rw d refl
     by true e false c = inl (ap (λ (x : State). current_of x key) is ∙ (rw c refl), refl)
     by true e true c =

@@ -26,7 +26,7 @@ use Rattle.register_law.specs.Seen.{WasSent}
 use Rattle.register_law.specs.Tags.{request_key}
 use Rattle.register_law.specs.Cases.{Happened, TakenBy, ignored, replica_stopped, proxy_stopped, refused_at_once, started, replica_took, directory_took, proxy_learned, call_took, gave_up, published, not_published}
 use Rattle.register_law.proofs.TagsSent.{replica_tagged, call_sends, was_sent_stays}
-use Rattle.register_law.proofs.AnswersTold.{Replied, Reaches, merge_told, one_told, reached_now}
+use Rattle.register_law.proofs.AnswersTold.{Replied, Reaches, merge_told, one_told, reached_now, step_told}
 use Rattle.register_law.proofs.Basics.{WasPosted, sent_cases, Each, each_none, each_one, each_map, point_of}
 use Rattle.register_order.proofs.Members.{none_among}
 use Rattle.register_law.proofs.Kept.{is_request}
@@ -58,9 +58,6 @@ pub record IsCopy (key : KeyId) (request copy : Message) : Type 0 where
 pub data PairOf (key : KeyId) (s : Store) (h : Happening) (request message : Message) : Type 0 where
   both_sent : (copy : Message) → IsCopy key request copy → WasSent s copy → WasSent s message → PairOf key s h request message
   now_replied : (copy : Message) → IsCopy key request copy → Replied key s h copy message → PairOf key s h request message
-
-step_told : (state : replica.State) (message : Message) (o : Option KeyId) (key : KeyId) (post : Post) → o ≡ Some key → Contains (replica.step_at state message o).out.posts post → Contains (answers state.number (replica.kept_at state key) message) post
-step_told state message o key post is c = subst (λ (x : Option KeyId). Contains (replica.step_at state message x).out.posts post) is c
 
 -- a replica took a request of the key
 took_copy : (key : KeyId) (s : Store) (h : Happening) (d : ℕ) (from : Message) (post : Post) → KeyIsEventual key s → TakenBy s d from → key_of from ≡ Some key

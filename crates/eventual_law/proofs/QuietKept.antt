@@ -1,5 +1,5 @@
 -- Every event keeps what agreement rests on.
-use Rattle.std.proofs.Common.{◌≡◌, ℕ, ◌≤◌, Bool, true, false, List, refl, sym, ap, ◌∙◌, subst, arith}
+use Rattle.std.proofs.Common.{◌≡◌, ℕ, ◌≤◌, Bool, true, false, List, refl, ap, ◌∙◌, subst, arith}
 use Rattle.std.specs.Prelude.{if◌then◌else◌, Ok}
 use Rattle.std.proofs.lemmas.Grind.{common_steps}
 use Rattle.span_base.specs.declared.ids.DcId.{DcId}
@@ -12,27 +12,20 @@ use Rattle.epoch_directory.specs.State.{current_of}
 use Rattle.replica_core.specs.declared.kept.Kept.{Kept}
 use Rattle.replica_core.specs.Keeping.{is_over}
 use Rattle.replica_core.specs.Answering.{gone, done, merge_answer}
-use Rattle.slot_pool.specs.declared.handles.Handle.{Handle}
 use Rattle.world_core.specs.declared.event.Event.{Event}
-use Rattle.world_core.specs.declared.live.LiveCall.{LiveCall}
-use Rattle.world_core.specs.State.{Store, proxy_at, view_at, kept_of}
-use Rattle.world_core.specs.Knowing.{learned}
-use Rattle.world_core.specs.Calls.{tag_of_call, key_of_call}
+use Rattle.world_core.specs.State.{Store, kept_of}
 use Rattle.world_core.specs.Step.{Happening, step}
 use Rattle.world_core.specs.Run.{MayHappen}
 use Rattle.register_law.specs.Ghost.{Ghost, noted_of}
 use Rattle.register_law.specs.Seen.{WasSent, Grows}
-use Rattle.register_law.specs.Tags.{IsLiveAt}
 use Rattle.register_law.specs.Cases.{Happened}
 use Rattle.register_law.proofs.AnswersTold.{Replied, one_told}
 use Rattle.register_law.proofs.Basics.{sent_cases}
 use Rattle.register_law.proofs.Kept.{rises}
-use Rattle.register_law.proofs.TagsCalls.{LiveIs, was_live, begins, went_on, taken_of, live_after, started_opens}
 use Rattle.register_law.proofs.TagsSent.{was_sent_stays}
-use Rattle.register_law.proofs.TagsSteps.{may_ask, take_goes_on}
-use Rattle.register_law.proofs.WaitingMeets.{same_part}
+use Rattle.register_law.proofs.WaitingMeets.{handles_after}
 use Rattle.eventual_law.specs.Held.{InvOfEventual}
-use Rattle.eventual_law.specs.Quiet.{handle_of, IsZeroOrPushed, MovesGoOn}
+use Rattle.eventual_law.specs.Quiet.{IsZeroOrPushed, MovesGoOn}
 use Rattle.eventual_law.proofs.CallKeys.{keys_kept}
 use Rattle.eventual_law.proofs.KeptNow.{kept_now}
 use Rattle.eventual_law.proofs.Shapes.{one_shape_after}
@@ -43,19 +36,6 @@ use Rattle.eventual_law.proofs.Closing.{freeze_opened_after, closing_after}
 use Rattle.eventual_law.proofs.Undecided.{not_switched_after, undecided_after}
 use Rattle.eventual_law.proofs.Spread.{spread_after, pushed_now, zero_or_stays}
 use Rattle.eventual_law.proofs.SoundKept.{sound_kept}
-
--- each live call stands under the handle of its tag
-pub handles_after : (s : Store) (h : Happening) → Happened s h → ((p : ℕ) (handle : Handle) (live : LiveCall) → IsLiveAt s p handle live → handle_of (tag_of_call live) ≡ handle) → (p : ℕ) (handle : Handle) (live : LiveCall) → IsLiveAt h.store p handle live → handle_of (tag_of_call live) ≡ handle
-handles_after s h is all p handle live there = by (live_after s h is p handle live there)
-  where
-    by : LiveIs s h p handle live → handle_of (tag_of_call live) ≡ handle
-    by (was_live old) = all p handle live old
-    by (begins key work st at same) = ap (λ (x : LiveCall). handle_of (tag_of_call x)) same ∙ ap handle_of (started_opens s p key work h st).tag_is ∙ sym at
-    by (went_on message old took at same no_end) =
-        ap (λ (x : LiveCall). handle_of (tag_of_call x)) same
-        ∙ same_part handle_of (λ _. refl) (may_ask old) (tag_of_call old) (key_of_call old) (taken_of s p message old).state (taken_of s p message old).out
-        (take_goes_on old message (view_at (learned (proxy_at s p) message).views (key_of_call old)) (learned (proxy_at s p) message).seen)
-        ∙ all p _ old took.live ∙ sym at
 
 gone_same : (n d : ℕ) (kept : Kept) (tag other : Tag) (last : ℕ) → gone n kept tag ≡ m.Gone other (record { 0 = d }) last → n ≡ d
 gone_same n d kept tag other last e =

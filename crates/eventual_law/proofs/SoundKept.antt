@@ -1,5 +1,5 @@
 -- Every event keeps it that each published policy of an eventual key is a sound one.
-use Rattle.std.proofs.Common.{◌≡◌, ◌⊎◌, inl, inr, ℕ, ◌+◌, ◌-◌, ◌<◌, ◌≤◌, Bool, true, false, List, [], ◌∷◌, ◌++◌, zero, suc, refl, sym, ap, ◌∙◌, subst, arith}
+use Rattle.std.proofs.Common.{◌≡◌, ◌⊎◌, inl, inr, ℕ, ◌+◌, ◌-◌, ◌<◌, ◌≤◌, Bool, true, false, List, [], ◌∷◌, refl, sym, ap, ◌∙◌, subst, arith}
 use Rattle.std.specs.Prelude.{◌==◌, not, nat_lt, if◌then◌else◌, length, find, option_map, unwrap_or, slice_get, slice_index_or, Option, Some, None, Ok, Err}
 use Rattle.std.specs.Option.{option_map_or}
 use Rattle.std.proofs.lemmas.Bool.{cases_lt, eqb-true}
@@ -45,6 +45,7 @@ use Rattle.eventual_law.specs.Quiet.{IsSoundEventual, MovesGoOn}
 use Rattle.eventual_law.proofs.GreatestStep.{Makes, either_makes, makes_or, sends_makes}
 use Rattle.std.proofs.lemmas.List.FromFn.{get_or-map-range_with_len}
 use Rattle.eventual_law.proofs.Lists.{found_in}
+use Rattle.register_law.proofs.OpeningsCurrent.{last_is}
 
 -- the tables stay, or one is published
 abbrev Tables : Store → Event → Store → Type 0
@@ -116,13 +117,6 @@ event_tables s (Publish table) = publish_tables s table
 
 tables_after : (s : Store) (e : Event) (h : Happening) → step s e ≡ Ok h → Tables s e h.store
 tables_after s e h is = subst (Makes (Tables s e)) is (event_tables s e)
-
--- what stands at the end
-last_is : {X : Type 0} → (xs : List X) (y d : X) (i : ℕ) → i ≡ length xs → slice_index_or (xs ++ y ∷ []) i d ≡ y
-last_is {X} [] y d zero e = refl
-last_is {X} [] y d (suc i) e = absurd (omega arith)
-last_is {X} (x ∷ xs) y d zero e = absurd (omega arith)
-last_is {X} (x ∷ xs) y d (suc i) e = last_is xs y d i (omega arith)
 
 -- a policy of the mode of one that isn't strong isn't strong
 same_mode : (one other : Policy) → is_strong one ≡ false → HasSameMode one other → is_strong other ≡ false

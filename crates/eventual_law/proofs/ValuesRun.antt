@@ -1,8 +1,8 @@
 -- After every run each value that a get gave is that of a put that had begun.
-use Rattle.std.proofs.Common.{◌≡◌, inl, inr, ℕ, List, [], ◌∷◌, ◌++◌, refl, sym, ap, ◌∙◌, subst, arith, ◌≤◌}
+use Rattle.std.proofs.Common.{◌≡◌, inl, inr, ℕ, List, [], ◌∷◌, ◌++◌, refl, sym, ◌∙◌, subst, ◌≤◌}
 use Rattle.std.specs.Prelude.{Ok, Err, Contains}
 use Rattle.std.proofs.lemmas.List.{append-nil, append_assoc}
-use Rattle.std.proofs.lemmas.List.Elements.{Contains-append_left, Contains-append_cases}
+use Rattle.std.proofs.lemmas.List.Elements.{Contains-append_left}
 use Rattle.span_base.specs.declared.ids.Call.{Call}
 use Rattle.span_base.specs.declared.ids.KeyId.{KeyId}
 use Rattle.ticket_rules.specs.declared.stamp.Stamp.{Stamp}
@@ -16,24 +16,21 @@ use Rattle.replica_core.specs.declared.kept.Kept.{Kept}
 use Rattle.world_core.specs.declared.live.LiveCall.TheVariants.{EventualMove}
 use Rattle.world_core.specs.declared.event.Event.{Event}
 use Rattle.world_core.specs.declared.event.Header.{Header}
-use Rattle.world_core.specs.State.{Store, opening, proxy_at, view_at}
-use Rattle.world_core.specs.Knowing.{learned}
-use Rattle.world_core.specs.Calls.{key_of_call}
+use Rattle.world_core.specs.State.{Store, opening}
 use Rattle.world_core.specs.Step.{Happening, Outcome, step}
 use Rattle.world_core.specs.Run.{Run, run, run_of, ran, store_after}
 use Rattle.register_law.specs.Cases.{Happened}
 use Rattle.register_law.proofs.Happened.{happened}
 use Rattle.register_order.proofs.Members.{none_among}
 use Rattle.register_law.proofs.Opening.{nothing_sent, none_live, nothing_kept}
-use Rattle.register_law.proofs.MarksAre.{marks_are, start_ticket, TicketIs, drawn_first, drawn_later, ticket_is}
-use Rattle.register_law.proofs.CallsOthers.{take_ticket_is}
-use Rattle.register_law.proofs.MarksOfKey.{in_between}
+use Rattle.register_law.proofs.MarksOfKey.{in_between, same_fields}
 use Rattle.eventual_law.specs.Keys.{IsEventualKey}
 use Rattle.eventual_law.specs.Puts.{IsPutOf}
 use Rattle.eventual_law.specs.Known.{IsOn, by_request, by_life, by_begin, IsKnownPut, Known}
 use Rattle.eventual_law.specs.Laws.{ValuesAreThoseOfPuts}
 use Rattle.eventual_law.proofs.GreatestRun.{kinds_first}
 use Rattle.eventual_law.proofs.ValuesKept.{known_kept}
+use Rattle.register_law.proofs.EndsEnded.{tickets_after}
 
 one_more : (P : Store → List Mark → Type 0) (s : Store) (marks : List Mark) (o : Outcome) (rest : Run) → ((h : Happening) → o ≡ Ok h → P h.store (marks ++ h.marks)) → P s marks
     → ((now : List Mark) → P (store_after s o) now → P rest.store (now ++ rest.marks)) → P (ran s o rest).store (marks ++ (ran s o rest).marks)
@@ -81,29 +78,14 @@ abbrev pub TicketsName : Store → List Mark → Type 0
 TicketsName s marks = (call : Call) (stamp : Stamp) → Contains marks (k.Ticket call stamp) → (stamp.proxy ≡ call.proxy) × (stamp.seq ≡ call.seq) × (1 ≤ stamp.number)
 
 pub tickets_name : (s : Store) (h : Happening) (marks : List Mark) → Happened s h → TicketsName s marks → TicketsName h.store (marks ++ h.marks)
-tickets_name s h marks is was call stamp c =
-    elim (Contains-append_cases marks h.marks (k.Ticket call stamp) c) as (λ _. (stamp.proxy ≡ call.proxy) × (stamp.seq ≡ call.seq) × (1 ≤ stamp.number)) [
-      | inl old ↦ was call stamp old
-      | inr new ↦ from (ticket_is s h (marks_are s h is) call stamp new)
-    ]
-  where
-    from : TicketIs s h call stamp → (stamp.proxy ≡ call.proxy) × (stamp.seq ≡ call.seq) × (1 ≤ stamp.number)
-    from (drawn_first p at next drawn) =
-        let some : 1 ≤ (start_ticket s p at).number = omega arith in
-        (ap (λ (x : Stamp). x.proxy) drawn ∙ ap (λ (x : Call). x.proxy) (sym next), ap (λ (x : Stamp). x.seq) drawn ∙ ap (λ (x : Call). x.seq) (sym next), subst (λ (x : Stamp). 1 ≤ x.number) (sym drawn) some)
-    from (drawn_later p message live took of draws) =
-        let t = take_ticket_is live message (view_at (learned (proxy_at s p) message).views (key_of_call live)) (learned (proxy_at s p) message).seen stamp draws in
-        (t.proxy ∙ ap (λ (x : Call). x.proxy) of, t.seq ∙ ap (λ (x : Call). x.seq) of, t.some)
-
-same_call : (a b : Call) → a.proxy ≡ b.proxy → a.seq ≡ b.seq → a ≡ b
-same_call a b p q = ap (λ n. let c : Call = record { proxy = n; seq = a.seq } in c) p ∙ ap (λ n. let c : Call = record { proxy = b.proxy; seq = n } in c) q
+tickets_name s h marks is was = tickets_after s h marks is was
 
 -- no two calls have one ticket
 pub one_call : (s : Store) (marks : List Mark) (stamp : Stamp) (one other : Call) → TicketsName s marks → Contains marks (k.Ticket one stamp) → Contains marks (k.Ticket other stamp) → other ≡ one
 one_call s marks stamp one other names a b =
     let x = names one stamp a in
     let y = names other stamp b in
-    same_call other one (sym y.0 ∙ x.0) (sym y.1 ∙ x.1)
+    same_fields other one (sym y.0 ∙ x.0) (sym y.1 ∙ x.1)
 
 pub values_are_those_of_puts : ValuesAreThoseOfPuts
 values_are_those_of_puts header events h may key e call stamp value earlier later split get above =

@@ -36,6 +36,7 @@ use Rattle.eventual_law.specs.Held.{KnowsOpened, SwitchingHeld, IsHeldMove, InvO
 use Rattle.world_core.proofs.CallSteps.{strong_shows}
 use Rattle.register_law.proofs.CallsOthers.{eventual_out}
 use Rattle.register_law.proofs.TagsCalls.{proxies_stay}
+use Rattle.register_law.proofs.OpeningsKept.{same_opening}
 
 -- the view is of the key after this message, if it was before
 abbrev IsOpenedIn : KeyId → Store → Ghost → List View → Type 0
@@ -81,9 +82,6 @@ shows call message new (was_refused tag replica epoch old target frozen seeded t
 shows call message new (arrived tag at epoch old target frozen seeded stage got c is) =
     inr (record { tag = tag; at = at; epoch = epoch; old = old; target = target; frozen = frozen; seeded = seeded; stage_is = stage; message_is = got; own = same_tag call.phase.tag tag c; is = is })
 
-switch_same : (a b : Tag) (key at : KeyId) (e f o n : ℕ) → m.Switch a key e f ≡ m.Switch b at o n → f ≡ n
-switch_same a b key at e f o n is = cc
-
 -- the view that a move of the key shows at its end
 arrived_view : (key : KeyId) (s : Store) (g : Ghost) → InvOfEventual key s g → (p : ℕ) (message : Message) (call : Moving) (new : Step Moving) → IsLiveAt s p (handle_in message) (EventualMove call) → call.key ≡ key → WasSent s message → (a : HasArrived call message new)
     → IsOpenedView key s g (record { key = call.key; epoch = a.target.number; policy = a.target.policy })
@@ -94,7 +92,7 @@ arrived_view key s g inv p message call new lives at_key sent a =
     let held : SwitchingHeld key s g call.phase a.old a.target = subst (IsHeldMove key s g call.phase) a.stage_is (inv.moves.live p (handle_in message) call lives at_key) in
     let done = inv.moves.switched_opened a.tag a.epoch (subst (λ (x : KeyId). WasSent s (m.Switched a.tag x true a.epoch)) same told) in
     let one = inv.answers.one_shape (m.Switch a.tag key done.old done.new) (m.Switch call.phase.tag key a.old a.target.number) done.sent (to.Directory, held.sent) refl refl (sym a.own) in
-    record { opened = subst (Contains g.opened) (switch_same a.tag call.phase.tag key key done.old done.new a.old a.target.number one) done.opened; policy = held.policy }
+    record { opened = subst (Contains g.opened) (same_opening a.tag call.phase.tag key key done.old done.new a.old a.target.number one) done.opened; policy = held.policy }
 
 none_shown : (key : KeyId) (s : Store) (g : Ghost) (views : List View) (o : Option View) → o ≡ None → IsOpenedIn key s g views → IsOpenedIn key s g (views_with views o)
 none_shown key s g views o is was = subst (λ (x : Option View). IsOpenedIn key s g (views_with views x)) (sym is) was

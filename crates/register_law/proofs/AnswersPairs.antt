@@ -1,7 +1,7 @@
 -- Every event keeps what the answers of replicas tell.
 use Rattle.std.proofs.Common.{◌≡◌, ℕ, ◌≤◌, Bool, true, false, List, refl, sym, ap, subst, arith, nat_lt, nat_le, max, ◌&&◌, if◌then◌else◌, Some}
 use Rattle.std.proofs.lemmas.Bool.{lt-ltb, le-ltb, ltb-false, le-leb}
-use Rattle.register_law.proofs.Words.{KeyId, IsAtMost, Stamp, Tag, Kept, Store, kept_of, Happening, Happened, Ghost, noted_of, Inv, Grows, IsKept, IsKnown, WasSent, version_before, IsAtMost-trans, IsAtMost-refl, tag_of, key_of, Message}
+use Rattle.register_law.proofs.Words.{KeyId, IsAtMost, Stamp, Tag, Kept, Store, kept_of, Happening, Happened, Ghost, noted_of, Inv, IsKept, IsKnown, WasSent, version_before, IsAtMost-trans, IsAtMost-refl, tag_of, key_of, Message}
 use Rattle.wire_msg.specs.declared.message.Message.TheVariants as m
 use Rattle.register_law.proofs.MovesStable.{known_stays, kept_stays}
 use Rattle.register_law.proofs.Growth.{grows_by}
@@ -43,13 +43,13 @@ before_by false true false new version fixed is reached f = absurd (cc)
 before_by false false c new version fixed is reached f = f refl
 
 -- a replica that froze just now
-froze_now : (key : KeyId) (s : Store) (g : Ghost) (h : Happening) → Inv key s g → (d epoch : ℕ) (version mark : Stamp) (value : List ℕ) → Froze key s h epoch d version mark value → (epoch ≤ (kept_of h.store d key).frozen) × IsAtMost (version_before key h.store (noted_of key s h g) d epoch) version
-froze_now key s g h inv d epoch version mark value froze =
+pub froze_now : (key : KeyId) (s : Store) (g : Ghost) (h : Happening) → ((d e : ℕ) → e ≤ (kept_of s d key).frozen → IsAtMost (g.fixed d e) (kept_of s d key).version) → (d epoch : ℕ) (version mark : Stamp) (value : List ℕ) → Froze key s h epoch d version mark value → (epoch ≤ (kept_of h.store d key).frozen) × IsAtMost (version_before key h.store (noted_of key s h g) d epoch) version
+froze_now key s g h below d epoch version mark value froze =
     let frozen : (kept_of h.store d key).frozen ≡ max (kept_of s d key).frozen epoch = ap (λ (x : Kept). x.frozen) froze.became in
     let le : epoch ≤ (kept_of h.store d key).frozen = omega arith in
     let at_most : IsAtMost (version_before key h.store (noted_of key s h g) d epoch) (kept_of s d key).version =
     before_by (nat_lt (kept_of h.store d key).frozen epoch) (nat_lt (kept_of s d key).frozen epoch) (nat_le epoch (kept_of h.store d key).frozen) (kept_of h.store d key).version (kept_of s d key).version (g.fixed d epoch)
-    (le-ltb (kept_of h.store d key).frozen epoch le) (le-leb epoch (kept_of h.store d key).frozen le) (λ b. inv.replicas.fixed_below d epoch (ltb-false (kept_of s d key).frozen epoch b)) in
+    (le-ltb (kept_of h.store d key).frozen epoch le) (le-leb epoch (kept_of h.store d key).frozen le) (λ b. below d epoch (ltb-false (kept_of s d key).frozen epoch b)) in
     (le, subst (IsAtMost (version_before key h.store (noted_of key s h g) d epoch)) froze.shows.version_is at_most)
 
 pub have_freeze_after : (key : KeyId) (s : Store) (g : Ghost) (h : Happening) → Happened s h → Inv key s g → (tag : Tag) (d epoch : ℕ) (version mark : Stamp) (value : List ℕ) → WasSent h.store (m.Freeze tag key epoch) → WasSent h.store (m.Have tag (record { 0 = d }) version mark value)
@@ -58,7 +58,7 @@ have_freeze_after key s g h is inv tag d epoch version mark value asked told =
     let grows = grows_by key s g h is inv in
     elim (pair_is key s g h (m.Freeze tag key epoch) (m.Have tag (record { 0 = d }) version mark value) inv is asked told refl refl (point_of tag tag refl)) as (λ _. (epoch ≤ (kept_of h.store d key).frozen) × IsAtMost (version_before key h.store (noted_of key s h g) d epoch) version) [
       | both_sent a b ↦ (let was = inv.answers.have_freeze tag d epoch version mark value a b in let le = was.0 in let more = grows.frozen d in (omega arith, subst (λ (x : Stamp). IsAtMost x version) (sym (grows.fixed d epoch was.0)) was.1))
-      | now_replied r ↦ froze_now key s g h inv d epoch version mark value (freeze_replied key s h tag tag epoch d version mark value r)
+      | now_replied r ↦ froze_now key s g h inv.replicas.fixed_below d epoch version mark value (freeze_replied key s h tag tag epoch d version mark value r)
     ]
 
 -- what a replica shows is known, and its mark kept

@@ -32,7 +32,7 @@ pub record Replied (key : KeyId) (s : Store) (h : Happening) (request message : 
   pub is : post.message ≡ message
   pub became : kept_of h.store d key ≡ kept_after (kept_of s d key) request
 
-step_told : (state : replica.State) (message : Message) (o : Option KeyId) (key : KeyId) (post : Post) → o ≡ Some key → Contains (replica.step_at state message o).out.posts post → Contains (answers state.number (replica.kept_at state key) message) post
+pub step_told : (state : replica.State) (message : Message) (o : Option KeyId) (key : KeyId) (post : Post) → o ≡ Some key → Contains (replica.step_at state message o).out.posts post → Contains (answers state.number (replica.kept_at state key) message) post
 step_told state message o key post is c = subst (λ (x : Option KeyId). Contains (replica.step_at state message x).out.posts post) is c
 
 -- a replica took the request itself
@@ -118,7 +118,7 @@ pair_is key s g h request message inv is asked told at none same = by (sent_or_p
 
 -- ---- what a replica that answered so had, or has now
 
-merged_has : (kept : Kept) (stamp : Stamp) (value : List ℕ) → IsAtMost stamp (merge kept stamp value).version
+pub merged_has : (kept : Kept) (stamp : Stamp) (value : List ℕ) → IsAtMost stamp (merge kept stamp value).version
 merged_has kept stamp value = by (is_gt (stamp_cmp stamp kept.version)) refl
   where
     by : (b : Bool) → is_gt (stamp_cmp stamp kept.version) ≡ b → IsAtMost stamp (if b then record kept { version = stamp; value = value } else kept).version
@@ -151,7 +151,7 @@ yes_same n d tag other e =
     let replicas : a ≡ b = cc in
     ap (λ (x : DcId). x.0) replicas
 
-still_open : (kept : Kept) (epoch : ℕ) → is_over kept epoch ≡ false → kept.frozen < epoch
+pub still_open : (kept : Kept) (epoch : ℕ) → is_over kept epoch ≡ false → kept.frozen < epoch
 still_open kept epoch h = grind (arith, common_steps)
 
 merge_reaches : (epoch : ℕ) (stamp : Stamp) (kept : Kept) (value : List ℕ) → kept.frozen < epoch → Reaches epoch stamp (merge kept stamp value)

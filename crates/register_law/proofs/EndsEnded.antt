@@ -1,6 +1,6 @@
 -- A call that has ended lives no more, and ends once; the greatest answer and the tickets after every event.
 use Rattle.std.proofs.Common.{◌≡◌, inl, inr, ℕ, Bool, true, false, [], ◌∷◌, ◌++◌, refl, sym, ap, ◌∙◌, subst, ◌<◌, List, arith, if◌then◌else◌, Some, Contains, length, ◌≤◌, Option, None, IsSome}
-use Rattle.register_law.proofs.Words.{with_proxy, Call, KeyId, Stamp, tag_of, Message, Reply, Tag, item_at, Handle, Work, key_of_call, tag_of_call, learned, draws_ticket, Store, proxy_at, view_at, Happening, handle_in, LiveCall, CallTook, Happened, Started, next_call, Ghost, Inv, IsLiveAt, Proxy, same_handle, is_dead, Mark, HasBegin, Contains-append_cases, Contains-append_left, Contains-append_right, IsAtMost, greater, Begun, answered_with, is_begun, noted_of, raised_by, top_after, among, none_among, IsAtMost-trans, TagsTellApart}
+use Rattle.register_law.proofs.Words.{with_proxy, Call, KeyId, Stamp, tag_of, Message, Reply, Tag, item_at, Handle, Work, key_of_call, tag_of_call, learned, draws_ticket, Store, proxy_at, view_at, Happening, handle_in, LiveCall, CallTook, Happened, Started, next_call, Ghost, Inv, IsLiveAt, Proxy, is_dead, Mark, HasBegin, Contains-append_cases, Contains-append_left, Contains-append_right, IsAtMost, greater, Begun, answered_with, is_begun, noted_of, raised_by, top_after, among, none_among, IsAtMost-trans, TagsTellApart}
 use Rattle.wire_msg.specs.declared.actor.Actor.TheVariants as to
 use Rattle.run_marks.specs.declared.mark.Mark.TheVariants as k
 use Rattle.slot_pool.proofs.HistoryLemmas.{take_map}
@@ -162,13 +162,12 @@ top_greatest_after key s g h is inv call reply stamp some c answered =
         let b : HasBegin g.marks (tag_of_call live).call = inv.ends.live_marked p handle live there in
         begun_true (g.begun call) (was_of_key key s g h is inv call (k.Begin call b.at b.work) (subst (λ (c : Call). Contains g.marks (k.Begin c b.at b.work)) of b.marked) refl some)
 
--- ---- each ticket names its call
-
 -- each ticket names its call
-pub tickets_after : (key : KeyId) (s : Store) (g : Ghost) (h : Happening) → Happened s h → Inv key s g → (call : Call) (stamp : Stamp) → Contains (g.marks ++ h.marks) (k.Ticket call stamp) → (stamp.proxy ≡ call.proxy) × (stamp.seq ≡ call.seq) × (1 ≤ stamp.number)
-tickets_after key s g h is inv call stamp c =
-    elim (Contains-append_cases g.marks h.marks (k.Ticket call stamp) c) as (λ _. (stamp.proxy ≡ call.proxy) × (stamp.seq ≡ call.seq) × (1 ≤ stamp.number)) [
-      | inl old ↦ inv.ends.tickets call stamp old
+pub tickets_after : (s : Store) (h : Happening) (marks : List Mark) → Happened s h → ((call : Call) (stamp : Stamp) → Contains marks (k.Ticket call stamp) → (stamp.proxy ≡ call.proxy) × (stamp.seq ≡ call.seq) × (1 ≤ stamp.number))
+    → (call : Call) (stamp : Stamp) → Contains (marks ++ h.marks) (k.Ticket call stamp) → (stamp.proxy ≡ call.proxy) × (stamp.seq ≡ call.seq) × (1 ≤ stamp.number)
+tickets_after s h marks is was call stamp c =
+    elim (Contains-append_cases marks h.marks (k.Ticket call stamp) c) as (λ _. (stamp.proxy ≡ call.proxy) × (stamp.seq ≡ call.seq) × (1 ≤ stamp.number)) [
+      | inl old ↦ was call stamp old
       | inr new ↦ from (ticket_is s h (marks_are s h is) call stamp new)
     ]
   where

@@ -1,7 +1,7 @@
 -- What an event that is taken was: the one place that opens the step.
 use Rattle.std.proofs.Common.{◌≡◌, ℕ, ◌+◌, ◌<◌, Bool, true, false, List, [], ◌∷◌, refl, ap, ◌∙◌, nat_lt, not, ◌&&◌, ◌==◌, if◌then◌else◌, length, Option, Some, None, slice_get, Ok, Err, Contains}
 use Rattle.std.specs.Option.{option_map_or}
-use Rattle.register_law.proofs.Words.{Call, KeyId, Epochs, FrameBytes, Messages, Step, bulk_of, Actor, Message, Post, Reply, View, State, latest, after_publish, table_fault, PublishFault, SetPolicy, after_take, item_at, next_handle, Handle, is_dead, Mark, Work, Taken, tag_of_call, learned, Done, draws_ticket, ends_at_once, enters, enters_with, first_tag, is_member, opened_call, starts, starts_as, starts_in, ticket_of, Proxy, Store, proxy_at, replica_at, view_at, Happening, Outcome, byte_limit, call_takes, deliver_to, fits_mode, give_up, give_up_under, gives_up, handle_in, handle_of_call, is_strong_key, judged, may_give_up, message_limit, nothing, only_learns, opens_none, proxy_did, proxy_takes, proxy_takes_as, replica_takes, sends, start, start_at, step, with_proxy, with_replica, Event, Deliver, GiveUp, Publish, Start, StopProxy, StopReplica, Limit, NoActor, NoCall, NoKey, NoMessage, WrongMode, LiveCall, Happened, call_took, did, directory_took, gave_up, ignored, next_call, not_published, proxy_learned, proxy_stopped, published, quietly, refused_at_once, replica_stopped, replica_took, started, slice_get_within, get_or_from_slice_get}
+use Rattle.register_law.proofs.Words.{Call, KeyId, Epochs, Step, bulk_of, Actor, Message, Post, Reply, View, State, latest, after_publish, table_fault, PublishFault, SetPolicy, after_take, item_at, next_handle, Handle, is_dead, Mark, Work, Taken, tag_of_call, learned, Done, draws_ticket, ends_at_once, enters, enters_with, first_tag, is_member, opened_call, starts, starts_as, starts_in, ticket_of, Proxy, Store, proxy_at, replica_at, view_at, Happening, Outcome, byte_limit, call_takes, deliver_to, fits_mode, give_up, give_up_under, gives_up, handle_in, handle_of_call, is_strong_key, judged, may_give_up, message_limit, nothing, only_learns, opens_none, proxy_did, proxy_takes, proxy_takes_as, replica_takes, sends, start, start_at, step, with_proxy, with_replica, Event, Deliver, GiveUp, Publish, Start, StopProxy, StopReplica, Limit, NoActor, NoCall, NoKey, NoMessage, WrongMode, LiveCall, Happened, call_took, did, directory_took, gave_up, ignored, next_call, not_published, proxy_learned, proxy_stopped, published, quietly, refused_at_once, replica_stopped, replica_took, started, slice_get_within, get_or_from_slice_get}
 use Rattle.wire_msg.specs.declared.actor.Actor.TheVariants as to
 use Rattle.wire_msg.specs.declared.outputs.Reply.TheVariants as r
 use Rattle.replica_core.specs.Rule as replica

@@ -1,14 +1,12 @@
 -- Every event keeps all that the legs of the key rest on.
-use Rattle.std.proofs.Common.{◌≡◌, ◌⊎◌, inl, inr, ℕ, ◌<◌, ◌≤◌, Bool, true, false, List, [], ◌∷◌, refl, sym, subst, arith, ◌==◌, if◌then◌else◌, Option, Some, None, Contains}
+use Rattle.std.proofs.Common.{◌≡◌, ◌⊎◌, inl, inr, ℕ, ◌<◌, ◌≤◌, sym, subst, Option, Some, None, Contains}
 use Rattle.register_law.proofs.CallsBacked.{begun_before}
-use Rattle.register_law.proofs.Words.{Call, KeyId, Stamp, Actor, Message, Post, Tag, Store, kept_of, Happening, Happened, Begun, Ghost, leg_of, legs_after, noted_of, Inv, FoundFrozen, FoundSettled, IsTicketIn, Grows, IsSettled, LegsAreBacked, among, NotedLeg as Leg, tag_of, IsLegRequest}
-use Rattle.wire_msg.specs.declared.message.Message.TheVariants as m
+use Rattle.register_law.proofs.Words.{Call, KeyId, Stamp, Message, Tag, Store, Happening, Happened, Begun, Ghost, noted_of, Inv, FoundFrozen, FoundSettled, IsTicketIn, Grows, IsSettled, LegsAreBacked, NotedLeg as Leg, tag_of, IsLegRequest}
 use Rattle.register_law.proofs.MovesKept.{posted}
 use Rattle.register_law.proofs.MovesStable.{settled_stays, found_settled_stays, found_frozen_stays}
 use Rattle.register_law.proofs.Growth.{grows_by}
 use Rattle.register_law.proofs.OpeningsPosts.{posted_opened, IsOfOpened}
 use Rattle.register_law.proofs.LegsFound.{found_settled, found_over, floor_now}
-use Rattle.register_law.proofs.Basics.{key_is}
 use Rattle.register_law.proofs.RequestsLegs.{leg_request_after, leg_numbered_after, leg_bound_after, leg_once_after, IsNew, legs_are, new_leg}
 use Rattle.register_law.proofs.AnswersTold.{legs_before}
 use Rattle.register_law.proofs.AnswersFence.{leg_past_after}

@@ -74,7 +74,7 @@ begins_once key s g inv call at other work again earlier later split = inv.ends.
 begin_marked : (key : KeyId) (s : Store) (g : Ghost) → Inv key s g → (call : Call) (b : Begun) → g.begun call ≡ Some b → Contains g.marks (k.Begin call key b.work)
 begin_marked key s g inv call b begun = let a : BegunAfter g call b key = inv.ends.begins call b begun in in_between g.marks a.earlier (k.Begin call key b.work) a.later a.split
 
-same_fields : (a b : Call) → a.proxy ≡ b.proxy → a.seq ≡ b.seq → a ≡ b
+pub same_fields : (a b : Call) → a.proxy ≡ b.proxy → a.seq ≡ b.seq → a ≡ b
 same_fields a b p q = ap (λ n. let c : Call = record { proxy = n; seq = a.seq } in c) p ∙ ap (λ n. let c : Call = record { proxy = b.proxy; seq = n } in c) q
 
 same_written : (v u : List ℕ) → w.Write v ≡ w.Write u → v ≡ u

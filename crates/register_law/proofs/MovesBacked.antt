@@ -40,7 +40,7 @@ seed_asked key s call old new frozen seeded top_gone a at_key stage =
 opened_epochs : (key : KeyId) (s : Store) (g : Ghost) → Inv key s g → (e : ℕ) → Contains g.opened e → IsOut s e
 opened_epochs key s g inv e c = inv.openings.published e c
 
-not_equal : (a b : ℕ) → a ≤ b → (a == b) ≡ false → a < b
+pub not_equal : (a b : ℕ) → a ≤ b → (a == b) ≡ false → a < b
 not_equal a b h k = grind (arith, common_steps)
 
 -- the Here that a move takes is of its key

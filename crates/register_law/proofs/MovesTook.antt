@@ -22,7 +22,7 @@ all_pass {X} p (y ∷ ys) h x c =
     let later = all_pass p ys (and_right (p y) (list_all p ys) h) x in
     elim (among y ys x c) as (λ _. p x ≡ true) [ inl is ↦ subst (λ (z : X). p z ≡ true) (sym is) (and_left (p y) (list_all p ys) h) | inr more ↦ later more ]
 
-at_least : (a b c : ℕ) → nat_le a b ≡ true → b ≤ c → a ≤ c
+pub at_least : (a b c : ℕ) → nat_le a b ≡ true → b ≤ c → a ≤ c
 at_least a b c h k = grind (arith, common_steps)
 
 -- enough frozen replicas meet every quorum

@@ -37,7 +37,7 @@ opening_replicas header key h k = record {
   fixed_below = λ d e _. subst (λ (x : Kept). IsAtMost stamp_zero x.version) (sym (nothing_kept header d key)) (IsAtMost-refl stamp_zero);
 }
 
-view_is : (header : Header) (key : KeyId) (p : ℕ) → key.0 < length header.keys → p < length header.proxies → view_at (proxy_at (opening header) p).views key ≡ opening_view header.sets header.keys key.0
+pub view_is : (header : Header) (key : KeyId) (p : ℕ) → key.0 < length header.keys → p < length header.proxies → view_at (proxy_at (opening header) p).views key ≡ opening_view header.sets header.keys key.0
 unfolding opening
 view_is header key p lk lp = at header.proxies p lp
   where

@@ -118,7 +118,7 @@ strong_there (x ∷ xs) zero h = omega arith
 strong_there (x ∷ xs) (suc i) h = let later = strong_there xs i h in omega arith
 
 -- what stands at the end
-last_is : {X : Type 0} → (xs : List X) (y d : X) (i : ℕ) → i ≡ length xs → slice_index_or (xs ++ y ∷ []) i d ≡ y
+pub last_is : {X : Type 0} → (xs : List X) (y d : X) (i : ℕ) → i ≡ length xs → slice_index_or (xs ++ y ∷ []) i d ≡ y
 last_is {X} xs y d i e = ap (λ (n : ℕ). slice_index_or (xs ++ y ∷ []) n d) e ∙ get_or-append_seam xs y [] d
 
 -- the set's policy in a new epoch

@@ -15,7 +15,7 @@ use Rattle.register_law.proofs.MovesKept.{posted}
 use Rattle.register_law.proofs.Growth.{grows_by}
 
 -- the current epoch is one that has been current
-newest_opened : (epoch : ℕ) (opened : List ℕ) → IsNewest epoch opened → Contains opened epoch
+pub newest_opened : (epoch : ℕ) (opened : List ℕ) → IsNewest epoch opened → Contains opened epoch
 newest_opened epoch [] newest = absurd newest
 newest_opened epoch (e ∷ rest) newest = (0, omega arith, newest)
 
@@ -111,7 +111,7 @@ switch_kept key s g h inv is tag old new (inr (whom, c)) =
     switch_stays key s g h.store (noted_of key s h g) old new (grows_by key s g h is inv) inv.openings.published (posted_carries key s g h inv whom message (posted s h is (record { to = whom; message = message }) c) refl)
 
 -- an epoch that is current after an event has been current
-opened_now : (old new : ℕ) (opened : List ℕ) (b : Bool) → (new == old) ≡ b → old < new → Contains (if b then opened else new ∷ opened) new
+pub opened_now : (old new : ℕ) (opened : List ℕ) (b : Bool) → (new == old) ≡ b → old < new → Contains (if b then opened else new ∷ opened) new
 opened_now old new opened true e lt = absurd (let same = eqb-true new old e in omega arith)
 opened_now old new opened false e lt = (0, omega arith, refl)
 
@@ -124,7 +124,7 @@ done_opens key s g h keys tag now =
     subst (Contains (opened_after key s h.store g.opened)) current
     (opened_now (current_of s.directory key) (current_of h.store.directory key) g.opened (current_of h.store.directory key == current_of s.directory key) refl (omega arith))
 
-same_opening : (a b : Tag) (c d : KeyId) (e f x y : ℕ) → m.Switch a c e f ≡ m.Switch b d x y → f ≡ y
+pub same_opening : (a b : Tag) (c d : KeyId) (e f x y : ℕ) → m.Switch a c e f ≡ m.Switch b d x y → f ≡ y
 same_opening a b c d e f x y is = cc
 
 same_point : (tag : Tag) → IsSamePoint tag tag

@@ -1,6 +1,6 @@
 -- Whatever was begun, and has no end, lives; and what lives lives on, unless the event marks its end.
-use Rattle.std.proofs.Common.{◌≡◌, ℕ, [], ◌∷◌, ◌++◌, refl, sym, ap, ◌∙◌, subst, arith, Option, Some, None, Contains, inl, inr, Bool, true, false, List, if◌then◌else◌}
-use Rattle.register_law.proofs.Words.{StrongWork, Call, Stamp, Step, tag_of, Message, Reply, View, Tag, counted, Next, Wait, CallState, Handle, key_of_call, tag_of_call, take, learned, proxy_at, view_at, Happening, end_marks, handle_in, ticket_marks, LiveCall, Strong, CallTook, Happened, IsWork, IsLiveAt, IsKindOf, DcId, KeyId, same_handle, item_at, with_item, EndsWith, Mark, Work, Taken, Proxy, Store, Started, next_call, IsLiveCall, OpenCallsLive, Contains-append_right, Contains-append_left, Contains-append_cases, Work as Asked, Store as World}
+use Rattle.std.proofs.Common.{◌≡◌, ℕ, [], ◌∷◌, ◌++◌, refl, sym, ap, ◌∙◌, subst, arith, Option, Some, None, Contains, inl, inr, Bool, List}
+use Rattle.register_law.proofs.Words.{StrongWork, Call, Stamp, Step, tag_of, Message, Reply, View, Tag, counted, Next, Wait, CallState, Handle, key_of_call, tag_of_call, take, learned, proxy_at, view_at, Happening, end_marks, handle_in, ticket_marks, LiveCall, Strong, CallTook, Happened, IsWork, IsLiveAt, IsKindOf, DcId, KeyId, item_at, EndsWith, Mark, Work, Taken, Proxy, Store, Started, next_call, IsLiveCall, OpenCallsLive, Contains-append_right, Contains-append_left, Contains-append_cases, Work as Asked, Store as World}
 use Rattle.wire_msg.specs.declared.outputs.Reply.TheVariants as r
 use Rattle.strong_proxy.specs.Rule as strong
 use Rattle.run_marks.specs.declared.mark.Mark.TheVariants as k

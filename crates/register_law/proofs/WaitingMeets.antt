@@ -1,5 +1,5 @@
 -- A live call stands under the handle of its tag, so its answers meet it.
-use Rattle.std.proofs.Common.{◌≡◌, ℕ, zero, suc, ◌<◌, Bool, true, false, List, [], ◌∷◌, refl, sym, ap, ◌∙◌, subst, arith, if◌then◌else◌, ◌==◌, length, slice_index_or, Option, Some, None, option_map, option_and_then, Contains, slice_get, Ok, Err, eq-eqb}
+use Rattle.std.proofs.Common.{◌≡◌, ℕ, zero, suc, ◌<◌, Bool, false, List, [], ◌∷◌, refl, sym, ap, ◌∙◌, subst, arith, if◌then◌else◌, length, slice_index_or, Option, Some, None, option_map, option_and_then, Contains, slice_get, Ok, Err, eq-eqb}
 use Rattle.std.specs.Option.{option_map_or}
 use Rattle.register_law.proofs.Words.{Message, Reply, same_handle, after_take, item_at, item_for, next_handle, with_item, Handle, tag_of_call, Proxy, Store, no_proxy, proxy_at, Happening, calls_with, handle_in, with_proxy, LiveCall, CallTook, Happened, call_took, gave_up, proxy_learned, proxy_stopped, refused_at_once, started, IsLiveAt, Slot, KeyId, Stamp, Outputs, Post, Tag, next_tag, key_of_call, learned, MayRun, run_of, Done, opening, view_at, call_takes, deliver_to, nothing, only_learns, proxy_did, proxy_takes, proxy_takes_as, step, Event, Deliver, Header, NoMessage, did, first_ghost}
 use Rattle.wire_msg.specs.declared.outputs.Reply.TheVariants as r
@@ -98,7 +98,7 @@ takes_and_lives s h p message live took end =
 abbrev pub under : Tag → Handle
 under tag = record { slot = tag.slot; generation = tag.generation }
 
-abbrev TagsAreHandles : Store → Type 0
+abbrev pub TagsAreHandles : Store → Type 0
 TagsAreHandles s = (p : ℕ) (handle : Handle) (live : LiveCall) → IsLiveAt s p handle live → under (tag_of_call live) ≡ handle
 
 -- what no phase of a call changes of its tag stays
@@ -107,7 +107,7 @@ same_part {X} part next may old key call out (stays at tag none) = ap part tag
 same_part {X} part next may old key call out (turns at tag sends) = ap part tag ∙ next old
 same_part {X} part next may old key call out (ends at tag some sends) = ap part tag
 
-handles_after : (s : Store) (h : Happening) → Happened s h → TagsAreHandles s → TagsAreHandles h.store
+pub handles_after : (s : Store) (h : Happening) → Happened s h → TagsAreHandles s → TagsAreHandles h.store
 handles_after s h is all p handle live there = by (live_after s h is p handle live there)
   where
     by : LiveIs s h p handle live → under (tag_of_call live) ≡ handle

@@ -1,6 +1,6 @@
 -- After every event each live read or write of the key waits: it leaves its phase once that is decided, or as it is given up.
 use Rattle.std.proofs.Common.{◌≡◌, ℕ, Bool, refl, sym, ap, ◌∙◌, subst, None, true, false, if◌then◌else◌, option_map, Option, Some}
-use Rattle.register_law.proofs.Words.{DcId, KeyId, Stamp, Step, Message, View, Tag, counted, best_stamp, done, next_of, Next, Enter, Look, Repair, Value, Wait, Stage, Ended, First, CallState, Taken, Happening, handle_in, LiveCall, Strong, CallTook, Happened, Ghost, noted_of, Inv, HasPolicy, IsStrongRequest, LiveCallsWait, Waits, CallBacked, StrongWork as Work, StoreNext as Store, Work as Asked, Store as World, Reply, next_tag, Found, is_counted, value_reply, Fenced, Moved, NumbersOut, Outside, Stored, Unsure, Handle, run_of, opening, first_ghost, history, IsLiveAt, IsDecided}
+use Rattle.register_law.proofs.Words.{DcId, KeyId, Stamp, Step, Message, View, Tag, counted, best_stamp, done, next_of, Next, Enter, Look, Repair, Value, Wait, Stage, Ended, First, CallState, Taken, Happening, handle_in, LiveCall, Strong, CallTook, Happened, Ghost, noted_of, Inv, HasPolicy, IsStrongRequest, LiveCallsWait, Waits, CallBacked, StrongWork as Work, StoreNext as Store, Work as Asked, Store as World, Reply, next_tag, Found, is_counted, value_reply, Handle, run_of, opening, first_ghost, history, IsLiveAt}
 use Rattle.strong_proxy.specs.Rule.{step}
 use Rattle.strong_proxy.proofs.Endings.{progress_after-key}
 use Rattle.strong_proxy.specs.Rule as strong
