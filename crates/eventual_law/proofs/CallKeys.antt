@@ -21,12 +21,12 @@ use Rattle.world_core.specs.Step.{Happening, handle_in}
 use Rattle.register_law.specs.Tags.{TagsTellApart, request_key}
 use Rattle.register_law.specs.Cases.{Happened, Started, next_call}
 use Rattle.register_law.proofs.Growth.{calls_grow}
-use Rattle.register_law.proofs.RequestsKept.{begins_next}
 use Rattle.register_law.proofs.TagsSent.{IsPushedOn, Posted, replies, opens, asks, sent_after}
 use Rattle.register_law.proofs.TagsCalls.{LiveFrom, older, newer, live_from, next_is_none, taken_of}
 use Rattle.register_law.proofs.MarksAre.{MarksAre, unmarked, of_no_call, of_refused, of_start, of_call, of_give_up, marks_are, start_ticket, in_one, in_two, in_call_marks, in_start_marks}
 use Rattle.register_order.proofs.Members.{none_among}
 use Rattle.eventual_law.specs.Known.{IsOn, by_request, by_life, by_begin, CallsHaveKeys}
+use Rattle.register_law.proofs.BegunCalls.{begins_next}
 
 -- the event begins this call on the key
 pub record BeginsOn (s : Store) (h : Happening) (call : Call) (key : KeyId) : Type 0 where

@@ -38,7 +38,6 @@ use Rattle.register_law.proofs.Growth.{calls_grow}
 use Rattle.register_law.proofs.MarksAre.{MarkOf, begins_now, takes_now, gives_up, marks_are, mark_of, EndIs, by_message, by_hand, end_is, at_once}
 use Rattle.register_law.proofs.MovesTook.{within_good}
 use Rattle.register_law.proofs.MovesStep.{MoveTook, move_took, unheard, was_current, froze_first, froze_one, froze_all, seeded_next, seeded_all, was_refused, was_stale, arrived}
-use Rattle.register_law.proofs.RequestsKept.{BegunIs, begun_is, begins_next, begun_before, begun_now}
 use Rattle.register_law.proofs.TagsCalls.{taken_of, next_is_none}
 use Rattle.eventual_law.specs.Kinds.{IsOfEventual}
 use Rattle.eventual_law.specs.Known.{IsOn, by_life, by_begin}
@@ -51,6 +50,7 @@ use Rattle.eventual_law.proofs.PutTurns.{stores}
 use Rattle.eventual_law.proofs.Turns.{ends_other}
 use Rattle.call_phase.specs.Best.{better}
 use Rattle.migration.specs.declared.stage.Stage.TheVariants as g
+use Rattle.register_law.proofs.BegunCalls.{BegunIs, begun_is, begins_next, begun_before, begun_now}
 
 -- the call of a mark of an event is counted after it
 numbered_now : (s : Store) (h : Happening) → Happened s h → TagsTellApart s → (call : Call) → MarkOf s h call → call.seq ≤ (proxy_at h.store call.proxy).begun

@@ -13,9 +13,9 @@ use Rattle.register_law.proofs.CallsLegs.{first_asks, none_first, asked_first, f
 use Rattle.register_law.proofs.OpeningsShown.{IsOpenedView}
 use Rattle.register_law.proofs.CallsGoes.{first_repairs}
 use Rattle.register_law.proofs.MarksAre.{start_ticket}
-use Rattle.register_law.proofs.RequestsKept.{begun_first}
 use Rattle.register_law.proofs.CallsRows.{OpensAs, opens_read, opens_write}
 use Rattle.std.proofs.lemmas.Option.{same_Some}
+use Rattle.register_law.proofs.BegunCalls.{begun_first}
 
 -- what a proxy knows of a key when it begins a call
 abbrev pub start_view : Store → ℕ → KeyId → View

@@ -7,7 +7,6 @@ use Rattle.strong_proxy.specs.declared.next.Next.TheVariants as n
 use Rattle.run_marks.specs.declared.mark.Mark.TheVariants as k
 use Rattle.strong_proxy.specs.Rule as strong
 use Rattle.register_law.proofs.MovesStable.{kept_stays}
-use Rattle.register_law.proofs.RequestsKept.{begun_some_stays}
 use Rattle.register_law.proofs.CallsStrong.{TookCounted, took_counted}
 use Rattle.register_law.proofs.Growth.{grows_by}
 use Rattle.register_law.proofs.CallsSent.{next_by}
@@ -19,6 +18,7 @@ use Rattle.register_law.proofs.CallsOthers.{StrongStep, counts_it, ignores_it, s
 use Rattle.register_law.proofs.MarksAre.{marks_are, EndIs, at_once, by_message, by_hand, end_is}
 use Rattle.register_law.proofs.EndsBegun.{was_of_key}
 use Rattle.register_law.proofs.EndsEnded.{dead_answers_none}
+use Rattle.register_law.proofs.BegunCalls.{begun_some_stays}
 
 -- a read or a write of the key is answered at a message
 pub record AnsweredNow (key : KeyId) (s : Store) (g : Ghost) (h : Happening) (call : Call) (reply : Reply) : Type 0 where

@@ -4,9 +4,9 @@ use Rattle.register_law.proofs.Words.{Call, KeyId, tag_of, Tag, call_of, Mark, W
 use Rattle.wire_msg.specs.declared.actor.Actor.TheVariants as to
 use Rattle.run_marks.specs.declared.mark.Mark.TheVariants as k
 use Rattle.register_law.proofs.Growth.{calls_grow}
-use Rattle.register_law.proofs.RequestsKept.{BegunIs, begun_before, begun_now, begun_is, begins_next, begun_noted, begun_some_stays, BeginsWith, begun_with}
 use Rattle.register_law.proofs.MarksAre.{MarkOf, begins_now, takes_now, gives_up, marks_are, mark_of, BeginsNone, MarkIs, nobodys, refused_begin, started_begin, mark_is, end_begins, ticket_begins, start_ticket}
 use Rattle.register_law.proofs.MarksOfKey.{Splits, in_front, behind, splits, in_between}
+use Rattle.register_law.proofs.BegunCalls.{BegunIs, begun_before, begun_now, begun_is, begins_next, begun_noted, begun_some_stays, BeginsWith, begun_with}
 
 -- each call that is marked was begun
 pub numbered_after : (key : KeyId) (s : Store) (g : Ghost) (h : Happening) → Happened s h → Inv key s g → (call : Call) (mark : Mark) → Contains (g.marks ++ h.marks) mark → call_of mark ≡ Some call → (1 ≤ call.seq) × (call.seq ≤ (proxy_at h.store call.proxy).begun)

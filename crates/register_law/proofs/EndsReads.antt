@@ -15,10 +15,10 @@ use Rattle.register_law.proofs.Growth.{grows_by}
 use Rattle.register_law.proofs.CallsSent.{next_by, Demanded, plain, at_start, by_call, demanded, call_sends, sends_confirm}
 use Rattle.register_law.proofs.CallsMessages.{rests_by}
 use Rattle.register_law.proofs.EndsBegun.{marked_begins_not}
-use Rattle.register_law.proofs.RequestsKept.{BeginsWith, begun_with}
 use Rattle.register_law.proofs.EndsAnswered.{AnsweredNow, answered_now, AnswerIs, gives, confirms, answer_is, now_counted}
 use Rattle.register_law.proofs.Basics.{is_some_of, sent_or_posted}
 use Rattle.register_law.proofs.FloorsMet.{stored_is_kept}
+use Rattle.register_law.proofs.BegunCalls.{BeginsWith, begun_with}
 
 -- what a read gives
 pub read_of_stays : (key : KeyId) (s : Store) (g : Ghost) (h : Happening) → Happened s h → Inv key s g → (stamp : Stamp) (value : List ℕ) → IsReadOf key s stamp value → IsReadOf key h.store stamp value

@@ -9,6 +9,7 @@ pub mod TagsSteps
 pub mod TagsCalls
 pub mod TagsSent
 pub mod TagsKept
+pub mod BegunCalls
 pub mod RequestsKept
 pub mod RequestsLegs
 pub mod ReplicasKept

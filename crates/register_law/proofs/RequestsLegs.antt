@@ -6,8 +6,9 @@ use Rattle.register_law.proofs.Growth.{calls_grow}
 use Rattle.register_law.proofs.TagsSent.{IsPushedOn, Posted, replies, opens, asks, posted, sent_after, posted_there}
 use Rattle.register_law.proofs.TagsCalls.{LiveFrom, older, newer, live_from}
 use Rattle.register_law.proofs.TagsKept.{tags_kept}
-use Rattle.register_law.proofs.RequestsKept.{begun_some_stays, Before, no_answer_asks, requests_kept}
+use Rattle.register_law.proofs.RequestsKept.{Before, no_answer_asks, requests_kept}
 use Rattle.register_law.proofs.Basics.{key_is}
+use Rattle.register_law.proofs.BegunCalls.{begun_some_stays}
 
 -- a leg that begins now
 abbrev pub new_leg : KeyId → Store → Tag → ℕ → Option Stamp → Leg
