@@ -27,7 +27,7 @@ use Rattle.register_law.specs.Seen.{WasSent}
 use Rattle.register_law.specs.Tags.{IsLiveAt}
 use Rattle.register_law.specs.Cases.{Happened, CallTook}
 use Rattle.register_law.proofs.Basics.{WasPosted}
-use Rattle.register_law.proofs.MovesStep.{MoveTook, move_took, unheard, was_current, froze_first, froze_one, froze_all, seeded_next, seeded_all, was_refused, was_stale, arrived, counts_own, made_by, counts_asked}
+use Rattle.register_law.proofs.MovesStep.{MoveTook, move_took, unheard, froze_first, froze_one, froze_all, seeded_next, seeded_all, was_refused, counts_own, made_by, counts_asked}
 use Rattle.register_law.proofs.WaitingMeets.{Meets, untouched, takes, given_up, meets, takes_and_lives}
 use Rattle.eventual_law.specs.Known.{by_request, by_life}
 use Rattle.eventual_law.specs.Held.{IsHeldMove, SeedingHeld, SwitchingHeld, InvOfEventual}
@@ -124,28 +124,18 @@ no_end X key s g inv go p message call lives at sent closes (by_switched tag on 
 
 -- a step of a move that closes the epoch, and doesn't end
 goes_on : (epoch : ℕ) (call : Moving) (message : Message) (new : Step Moving) → Closes epoch call.stage → new.out.end ≡ None → MoveTook eventual_rule call message new → Closes epoch new.state.stage
-goes_on epoch call message new closes none (unheard is) = subst (λ (x : Step Moving). Closes epoch x.state.stage) (sym is) closes
-goes_on epoch call message new closes none (was_current at own is) = absurd (let e = subst (λ (x : Step Moving). x.out.end ≡ None) is none in cc)
-goes_on epoch call message new closes none (was_stale at own is) = absurd (let e = subst (λ (x : Step Moving). x.out.end ≡ None) is none in cc)
-goes_on epoch call message new closes none (arrived tag at e old target frozen seeded stage got c is) = absurd (let z = subst (λ (x : Step Moving). x.out.end ≡ None) is none in cc)
-goes_on epoch call message new closes none (froze_first tag at told latest_epoch policy latest_policy stage got c different is) = absurd (subst (Closes epoch) stage closes)
-goes_on epoch call message new closes none (froze_one tag replica version mark value old target best stage got c is) = subst (λ (x : Step Moving). Closes epoch x.state.stage) (sym is) (subst (Closes epoch) stage closes)
-goes_on epoch call message new closes none (froze_all tag replica version mark value old target best found stage got c all e is) = subst (λ (x : Step Moving). Closes epoch x.state.stage) (sym is) (subst (Closes epoch) stage closes)
-goes_on epoch call message new closes none (seeded_next tag replica old target frozen seeded top_gone stage got c is) = subst (λ (x : Step Moving). Closes epoch x.state.stage) (sym is) (subst (Closes epoch) stage closes)
-goes_on epoch call message new closes none (seeded_all tag replica old target frozen seeded top_gone stage got c stored is) = subst (λ (x : Step Moving). Closes epoch x.state.stage) (sym is) (subst (Closes epoch) stage closes)
-goes_on epoch call message new closes none (was_refused tag replica e old target frozen seeded top_gone stage got c is) = subst (λ (x : Step Moving). Closes epoch x.state.stage) (sym is) (subst (Closes epoch) stage closes)
+goes_on epoch call message new closes none unheard = closes
+goes_on epoch call message new closes none (froze_first tag at told latest_epoch policy latest_policy stage got c different) = absurd (subst (Closes epoch) stage closes)
+goes_on epoch call message new closes none (froze_one tag replica version mark value old target best stage got c) = subst (Closes epoch) stage closes
+goes_on epoch call message new closes none (froze_all tag replica version mark value old target best found stage got c all e) = subst (Closes epoch) stage closes
+goes_on epoch call message new closes none (seeded_next tag replica old target frozen seeded top_gone stage got c) = subst (Closes epoch) stage closes
+goes_on epoch call message new closes none (seeded_all tag replica old target frozen seeded top_gone stage got c stored) = subst (Closes epoch) stage closes
+goes_on epoch call message new closes none (was_refused tag replica e old target frozen seeded top_gone stage got c) = subst (Closes epoch) stage closes
+goes_on epoch call message new closes none _ = absurd (cc)
 
 same_call_after : (call : Moving) (message : Message) (new : Step Moving) → MoveTook eventual_rule call message new → new.state.phase.tag.call ≡ call.phase.tag.call
-same_call_after call message new (unheard is) = ap (λ (x : Step Moving). x.state.phase.tag.call) is
-same_call_after call message new (was_current at own is) = ap (λ (x : Step Moving). x.state.phase.tag.call) is
-same_call_after call message new (was_stale at own is) = ap (λ (x : Step Moving). x.state.phase.tag.call) is
-same_call_after call message new (arrived tag at e old target frozen seeded stage got c is) = ap (λ (x : Step Moving). x.state.phase.tag.call) is
-same_call_after call message new (froze_first tag at told latest_epoch policy latest_policy stage got c different is) = ap (λ (x : Step Moving). x.state.phase.tag.call) is
-same_call_after call message new (froze_one tag replica version mark value old target best stage got c is) = ap (λ (x : Step Moving). x.state.phase.tag.call) is
-same_call_after call message new (froze_all tag replica version mark value old target best found stage got c all e is) = ap (λ (x : Step Moving). x.state.phase.tag.call) is
-same_call_after call message new (seeded_next tag replica old target frozen seeded top_gone stage got c is) = ap (λ (x : Step Moving). x.state.phase.tag.call) is
-same_call_after call message new (seeded_all tag replica old target frozen seeded top_gone stage got c stored is) = ap (λ (x : Step Moving). x.state.phase.tag.call) is
-same_call_after call message new (was_refused tag replica e old target frozen seeded top_gone stage got c is) = ap (λ (x : Step Moving). x.state.phase.tag.call) is
+same_call_after call message new unheard = refl
+same_call_after call message new _ = refl
 
 -- a move that closes an epoch is past its first phase
 not_first : (key : KeyId) (s : Store) (g : Ghost) (epoch : ℕ) (call : Moving) (at : Stage) → IsHeldMove key s g call.phase at → Closes epoch at → (call.phase.tag.phase == 1) ≡ false

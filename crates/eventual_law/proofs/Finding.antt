@@ -1,5 +1,5 @@
 -- What a freezing move has found was found before, or is found at the message.
-use Rattle.std.proofs.Common.{◌≡◌, ◌⊎◌, inl, inr, sym, subst}
+use Rattle.std.proofs.Common.{◌≡◌, ◌⊎◌, inl, inr}
 use Rattle.std.specs.Prelude.{Option, Some}
 use Rattle.wire_msg.specs.declared.message.Message.{Message}
 use Rattle.wire_msg.specs.Outputs.{Step}
@@ -11,7 +11,7 @@ use Rattle.migration.specs.declared.stage.Stage.TheVariants as at
 use Rattle.migration.specs.Eventual.{eventual as eventual_rule}
 use Rattle.migration.specs.Move.{Moving}
 use Rattle.migration.specs.Move as move
-use Rattle.register_law.proofs.MovesStep.{MoveTook, move_took, unheard, was_current, froze_first, froze_one, froze_all, seeded_next, seeded_all, was_refused, was_stale, arrived}
+use Rattle.register_law.proofs.MovesStep.{MoveTook, move_took, unheard, froze_one}
 use Rattle.eventual_law.proofs.Takes.{Finds}
 
 -- the stage is that of a freezing move that has found this
@@ -29,18 +29,10 @@ found_in : (old target was new : Epoch) (best : Option Found) (found : Found) �
 found_in old target was new best found e = cc
 
 took_found : (call : Moving) (taken : Message) (old target : Epoch) (found : Found) (new : Step Moving) → MoveTook eventual_rule call taken new → FoundAfter call taken old target found new
-took_found call taken old target found new (unheard is) = subst (FoundAfter call taken old target found) (sym is) (λ e. inl e)
-took_found call taken old target found new (was_current epoch own is) = subst (FoundAfter call taken old target found) (sym is) (λ e. absurd (cc))
-took_found call taken old target found new (froze_first tag key epoch newest policy newest_policy stage got c apart is) = subst (FoundAfter call taken old target found) (sym is) (λ e. absurd (cc))
-took_found call taken old target found new (froze_one tag replica version mark value was next best stage got c is) =
-    subst (FoundAfter call taken old target found) (sym is)
-    (λ e. inr (record { old = was; target = next; best = best; stage_is = stage; tag = tag; replica = replica; version = version; mark = mark; value = value; taken_is = got; counted = c; is = found_in old target was next (better best version value) found e }))
-took_found call taken old target found new (froze_all tag replica version mark value was next best last stage got c all e is) = subst (FoundAfter call taken old target found) (sym is) (λ z. absurd (cc))
-took_found call taken old target found new (seeded_next tag replica was next frozen seeded top_gone stage got c is) = subst (FoundAfter call taken old target found) (sym is) (λ e. absurd (cc))
-took_found call taken old target found new (seeded_all tag replica was next frozen seeded top_gone stage got c stored is) = subst (FoundAfter call taken old target found) (sym is) (λ e. absurd (cc))
-took_found call taken old target found new (was_refused tag replica epoch was next frozen seeded top_gone stage got c is) = subst (FoundAfter call taken old target found) (sym is) (λ e. absurd (cc))
-took_found call taken old target found new (was_stale epoch own is) = subst (FoundAfter call taken old target found) (sym is) (λ e. absurd (cc))
-took_found call taken old target found new (arrived tag key epoch was next frozen seeded stage got c is) = subst (FoundAfter call taken old target found) (sym is) (λ e. absurd (cc))
+took_found call taken old target found new unheard = λ e. inl e
+took_found call taken old target found new (froze_one tag replica version mark value was next best stage got c) =
+    λ e. inr (record { old = was; target = next; best = best; stage_is = stage; tag = tag; replica = replica; version = version; mark = mark; value = value; taken_is = got; counted = c; is = found_in old target was next (better best version value) found e })
+took_found call taken old target found new _ = λ e. absurd (cc)
 
 pub found_is : (call : Moving) (taken : Message) (old target : Epoch) (found : Found) → HasFound old target found (move.step eventual_rule call taken).state.stage → FoundIs call taken old target found
 found_is call taken old target found = took_found call taken old target found (move.step eventual_rule call taken) (move_took eventual_rule call taken)

@@ -1,6 +1,6 @@
 -- A move of an eventual key that is past its first phase is not given up.
 use Rattle.std.proofs.Common.{◌≡◌, ℕ, ◌+◌, Bool, true, false, List, [], ◌∷◌, refl, sym, ap, ◌∙◌, subst}
-use Rattle.std.specs.Prelude.{◌==◌, ◌&&◌, not, nat_lt, if◌then◌else◌, length, slice_get, Option, Some, None, Ok, Err, Contains, max}
+use Rattle.std.specs.Prelude.{◌==◌, ◌&&◌, not, nat_lt, if◌then◌else◌, length, slice_get, Option, Some, None, Ok, Err, Contains}
 use Rattle.std.specs.Option.{option_map_or}
 use Rattle.span_base.specs.declared.ids.Call.{Call}
 use Rattle.span_base.specs.declared.ids.KeyId.{KeyId}
@@ -46,14 +46,10 @@ use Rattle.register_law.specs.Cases.{next_call}
 use Rattle.register_law.proofs.CallsOthers.{take_end}
 use Rattle.register_law.proofs.MarksAre.{in_one, in_two, in_call_marks, in_start_marks}
 use Rattle.register_law.proofs.MovesKept.{same_live}
-use Rattle.register_law.proofs.MovesStep.{MoveTook, move_took, unheard, was_current, froze_first, froze_one, froze_all, seeded_next, seeded_all, was_refused, was_stale, arrived}
+use Rattle.register_law.proofs.MovesStep.{MoveTook, move_took, unheard}
 use Rattle.register_law.proofs.TagsCalls.{next_is_none}
 use Rattle.register_order.proofs.Members.{none_among}
-use Rattle.eventual_law.proofs.Turns.{ends_other}
 use Rattle.wire_msg.specs.declared.outputs.Outputs.{Outputs}
-use Rattle.call_phase.specs.Best.{better}
-use Rattle.call_phase.specs.Counting.{with_good, with_bad}
-use Rattle.migration.specs.declared.stage.Stage.TheVariants as g
 
 -- a move that lives, and may not be given up
 pub record IsBound (s : Store) (p : ℕ) (handle : Handle) (call : Moving) : Type 0 where
@@ -138,16 +134,8 @@ starting_keeps s p handle call tags lives q at work =
 
 -- no move ends as given up
 took_keeps : (X : Type 0) (call : Moving) (taken : Message) (new : Step Moving) → MoveTook eventual_rule call taken new → new.out.end ≡ Some r.GivenUp → X
-took_keeps X call taken new (unheard is) e = ends_other X new (move.unchanged call) r.GivenUp is (λ z. absurd (cc)) e
-took_keeps X call taken new (was_current epoch own is) e = ends_other X new (move.ends_current call epoch) r.GivenUp is (λ z. absurd (cc)) e
-took_keeps X call taken new (froze_first tag key epoch newest policy newest_policy stage got c apart is) e = ends_other X new (move.freezes call (move.epoch_at epoch policy) (move.epoch_at newest newest_policy)) r.GivenUp is (λ z. absurd (cc)) e
-took_keeps X call taken new (froze_one tag replica version mark held old target best stage got c is) e = ends_other X new (move.waits call (with_good call.phase replica) (g.Freezing old target (better best version held))) r.GivenUp is (λ z. absurd (cc)) e
-took_keeps X call taken new (froze_all tag replica version mark held old target best found stage got c all b is) e = ends_other X new (move.seeds eventual_rule call old target (with_good call.phase replica).good (Some found)) r.GivenUp is (λ z. absurd (cc)) e
-took_keeps X call taken new (seeded_next tag replica old target frozen seeded top_gone stage got c is) e = ends_other X new (move.waits call (with_good call.phase replica) (g.Seeding old target frozen seeded top_gone)) r.GivenUp is (λ z. absurd (cc)) e
-took_keeps X call taken new (seeded_all tag replica old target frozen seeded top_gone stage got c stored is) e = ends_other X new (move.switches call old target frozen seeded) r.GivenUp is (λ z. absurd (cc)) e
-took_keeps X call taken new (was_refused tag replica epoch old target frozen seeded top_gone stage got c is) e = ends_other X new (move.waits call (with_bad call.phase replica) (g.Seeding old target frozen seeded (max top_gone epoch))) r.GivenUp is (λ z. absurd (cc)) e
-took_keeps X call taken new (was_stale epoch own is) e = ends_other X new (move.ends_stale call epoch) r.GivenUp is (λ z. absurd (cc)) e
-took_keeps X call taken new (arrived tag key epoch old target frozen seeded stage got c is) e = ends_other X new (move.ends_at call target) r.GivenUp is (λ z. absurd (cc)) e
+took_keeps X call taken new unheard e = absurd (cc)
+took_keeps X call taken new _ e = absurd (cc)
 
 move_keeps : (call other : Moving) (message : Message) (view : View) (seen : ℕ) → EventualMove call ≡ EventualMove other → (take (EventualMove other) message view seen).out.end ≡ Some r.GivenUp → ⊥
 move_keeps call other message view seen same e = took_keeps ⊥ other message (move.step eventual_rule other message) (move_took eventual_rule other message) e

@@ -156,16 +156,16 @@ replica_below : (phase : Phase) (tag : Tag) (replica : DcId) → counts phase ta
 replica_below phase tag replica c = has-below phase.asked replica.0 (counts_asked phase tag replica c)
 
 pub counted_stays : (call : Moving) (taken message : Message) (new : Step Moving) → HasCounted call.stage call.phase message → MoveTook eventual_rule call taken new → Keeps call message new
-counted_stays call taken message new h (unheard is) = subst (Keeps call message) (sym is) (λ _. h)
-counted_stays call taken message new h (was_current epoch own is) = subst (Keeps call message) (sym is) (λ _. others_ended call.phase message)
-counted_stays call taken message new h (was_stale epoch own is) = subst (Keeps call message) (sym is) (λ _. others_ended call.phase message)
-counted_stays call taken message new h (arrived tag key epoch old target frozen seeded stage got c is) = subst (Keeps call message) (sym is) (λ _. others_ended call.phase message)
-counted_stays call taken message new h (froze_first tag key epoch latest_epoch policy latest_policy stage got c different is) = subst (Keeps call message) (sym is) (λ same. next_apart _ call.phase.tag same)
-counted_stays call taken message new h (froze_one tag replica version mark value old target best stage got c is) =
-    subst (Keeps call message) (sym is) (λ _. freezing_more old target best (better best version value) call.phase replica message (replica_below call.phase tag replica c) (subst (λ (x : Stage). HasCounted x call.phase message) stage h))
-counted_stays call taken message new h (froze_all tag replica version mark value old target best found stage got c all e is) = subst (Keeps call message) (sym is) (λ same. next_apart _ call.phase.tag same)
-counted_stays call taken message new h (seeded_next tag replica old target frozen seeded top_gone stage got c is) =
-    subst (Keeps call message) (sym is) (λ _. seeding_more old target frozen seeded top_gone top_gone call.phase replica message (replica_below call.phase tag replica c) (subst (λ (x : Stage). HasCounted x call.phase message) stage h))
-counted_stays call taken message new h (seeded_all tag replica old target frozen seeded top_gone stage got c stored is) = subst (Keeps call message) (sym is) (λ same. next_apart _ call.phase.tag same)
-counted_stays call taken message new h (was_refused tag replica epoch old target frozen seeded top_gone stage got c is) =
-    subst (Keeps call message) (sym is) (λ _. seeding_bad old target frozen seeded top_gone (max top_gone epoch) call.phase replica message (subst (λ (x : Stage). HasCounted x call.phase message) stage h))
+counted_stays call taken message new h unheard = λ _. h
+counted_stays call taken message new h (was_current epoch own) = λ _. others_ended call.phase message
+counted_stays call taken message new h (was_stale epoch own) = λ _. others_ended call.phase message
+counted_stays call taken message new h (arrived tag key epoch old target frozen seeded stage got c) = λ _. others_ended call.phase message
+counted_stays call taken message new h (froze_first tag key epoch latest_epoch policy latest_policy stage got c different) = λ same. next_apart _ call.phase.tag same
+counted_stays call taken message new h (froze_one tag replica version mark value old target best stage got c) =
+    λ _. freezing_more old target best (better best version value) call.phase replica message (replica_below call.phase tag replica c) (subst (λ (x : Stage). HasCounted x call.phase message) stage h)
+counted_stays call taken message new h (froze_all tag replica version mark value old target best found stage got c all e) = λ same. next_apart _ call.phase.tag same
+counted_stays call taken message new h (seeded_next tag replica old target frozen seeded top_gone stage got c) =
+    λ _. seeding_more old target frozen seeded top_gone top_gone call.phase replica message (replica_below call.phase tag replica c) (subst (λ (x : Stage). HasCounted x call.phase message) stage h)
+counted_stays call taken message new h (seeded_all tag replica old target frozen seeded top_gone stage got c stored) = λ same. next_apart _ call.phase.tag same
+counted_stays call taken message new h (was_refused tag replica epoch old target frozen seeded top_gone stage got c) =
+    λ _. seeding_bad old target frozen seeded top_gone (max top_gone epoch) call.phase replica message (subst (λ (x : Stage). HasCounted x call.phase message) stage h)

@@ -122,14 +122,13 @@ switch_now key s g inv phase old new seeded tag replica held sent c stored =
 -- whatever a move makes of a message
 pub moved_now : (key : KeyId) (s : Store) (g : Ghost) (z : Store) (h : Ghost) → InvOfEventual key s g → Grows key s g z h → (p : ℕ) (handle : Handle) (call : Moving) → IsLiveAt s p handle (EventualMove call) → call.key ≡ key → (message : Message) → WasSent s message
     → (new : Step Moving) → MoveTook eventual_rule call message new → After key z h new
-moved_now key s g z h inv grows p handle call live at_key message sent new (unheard is) = subst (After key z h) (sym is) (λ _. move_stays key s g z h call.phase call.stage grows inv.epochs.published (inv.moves.live p handle call live at_key))
-moved_now key s g z h inv grows p handle call live at_key message sent new (was_current epoch own is) = subst (After key z h) (sym is) (λ _. tt)
-moved_now key s g z h inv grows p handle call live at_key message sent new (was_stale epoch own is) = subst (After key z h) (sym is) (λ _. tt)
-moved_now key s g z h inv grows p handle call live at_key message sent new (arrived tag at epoch old target frozen seeded stage got c is) = subst (After key z h) (sym is) (λ _. tt)
-moved_now key s g z h inv grows p handle call live at_key message sent new (froze_first tag at epoch latest_epoch policy latest_policy stage got c different is) =
-    subst (After key z h) (sym is)
-    (λ posted. froze_now key s g z h inv grows p handle call live at_key tag at epoch latest_epoch policy latest_policy (subst (WasSent s) got sent) stage (same_tag call.phase.tag tag c) different posted)
-moved_now key s g z h inv grows p handle call live at_key message sent new (froze_one tag replica version mark value old target best stage got c is) =
+moved_now key s g z h inv grows p handle call live at_key message sent new unheard = λ _. move_stays key s g z h call.phase call.stage grows inv.epochs.published (inv.moves.live p handle call live at_key)
+moved_now key s g z h inv grows p handle call live at_key message sent new (was_current epoch own) = λ _. tt
+moved_now key s g z h inv grows p handle call live at_key message sent new (was_stale epoch own) = λ _. tt
+moved_now key s g z h inv grows p handle call live at_key message sent new (arrived tag at epoch old target frozen seeded stage got c) = λ _. tt
+moved_now key s g z h inv grows p handle call live at_key message sent new (froze_first tag at epoch latest_epoch policy latest_policy stage got c different) =
+    λ posted. froze_now key s g z h inv grows p handle call live at_key tag at epoch latest_epoch policy latest_policy (subst (WasSent s) got sent) stage (same_tag call.phase.tag tag c) different posted
+moved_now key s g z h inv grows p handle call live at_key message sent new (froze_one tag replica version mark value old target best stage got c) =
     let was = freezing_at key s g inv p handle call live at_key old target best stage in
     let b = better_some best version value in
     let counted = froze_counted key s g call.phase old target best tag replica version mark value b.0 inv.answers was (subst (WasSent s) got sent) c b.1 in
@@ -141,14 +140,13 @@ moved_now key s g z h inv grows p handle call live at_key message sent new (froz
       sent = was.sent;
       counted = λ d there. subst (λ (x : Option Found). IsFrozenWith key s g d old.number x) (sym b.1) (counted d there);
     } in
-    subst (After key z h) (sym is) (λ _. freezing_stays key s g z h (with_good call.phase replica) old target (better best version value) grows inv.epochs.published held)
-moved_now key s g z h inv grows p handle call live at_key message sent new (froze_all tag replica version mark value old target best found stage got c all e is) =
+    λ _. freezing_stays key s g z h (with_good call.phase replica) old target (better best version value) grows inv.epochs.published held
+moved_now key s g z h inv grows p handle call live at_key message sent new (froze_all tag replica version mark value old target best found stage got c all e) =
     let was = freezing_at key s g inv p handle call live at_key old target best stage in
     let counted = froze_counted key s g call.phase old target best tag replica version mark value found inv.answers was (subst (WasSent s) got sent) c e in
     let frozen = all_frozen key s g (with_good call.phase replica) old found was.policy was.asked all counted in
     let seed : Message = m.Seed (next_tag call.phase.tag) call.key target.number found.stamp found.value in
-    subst (After key z h) (sym is)
-    (λ posted. record {
+    λ posted. record {
       third = next_phase call.phase.tag 2 was.second;
       target = target_stays key s g z h old.number target grows was.target;
       asked = refl;
@@ -156,8 +154,8 @@ moved_now key s g z h inv grows p handle call live at_key message sent new (froz
       within = λ d there. absurd (none_in d there);
       frozen = frozen_stay key s g z h old.number found.stamp grows (inv.epochs.published old.number was.target.opened) frozen;
       counted = λ d there. absurd (none_in d there);
-    })
-moved_now key s g z h inv grows p handle call live at_key message sent new (seeded_next tag replica old target frozen seeded top_gone stage got c is) =
+    }
+moved_now key s g z h inv grows p handle call live at_key message sent new (seeded_next tag replica old target frozen seeded top_gone stage got c) =
     let was = seeding_at key s g inv p handle call live at_key old target frozen seeded top_gone stage in
     let held : SeedingHeld key s g (with_good call.phase replica) old target seeded = record {
       third = was.third;
@@ -168,20 +166,19 @@ moved_now key s g z h inv grows p handle call live at_key message sent new (seed
       frozen = was.frozen;
       counted = seeded_counted key s g inv call.phase old target seeded tag replica was (subst (WasSent s) got sent) c;
     } in
-    subst (After key z h) (sym is) (λ _. seeding_stays key s g z h (with_good call.phase replica) old target seeded grows inv.epochs.published held)
-moved_now key s g z h inv grows p handle call live at_key message sent new (seeded_all tag replica old target frozen seeded top_gone stage got c stored is) =
+    λ _. seeding_stays key s g z h (with_good call.phase replica) old target seeded grows inv.epochs.published held
+moved_now key s g z h inv grows p handle call live at_key message sent new (seeded_all tag replica old target frozen seeded top_gone stage got c stored) =
     let was = seeding_at key s g inv p handle call live at_key old target frozen seeded top_gone stage in
     let held = switch_now key s g inv call.phase old target seeded tag replica was (subst (WasSent s) got sent) c stored in
     let later = was.target.later in
     let switch : Message = m.Switch (next_tag call.phase.tag) call.key old target.number in
-    subst (After key z h) (sym is)
-    (λ posted. record {
+    λ posted. record {
       fourth = next_phase call.phase.tag 3 was.third;
       held = switch_stays key s g z h call.phase.tag.call old target.number grows inv.epochs.published held;
       policy = was.target.policy ∙ sym (grows.policies target.number (omega arith) was.target.published);
       sent = subst (λ (x : KeyId). Contains z.sent (record { to = to.Directory; message = m.Switch (next_tag call.phase.tag) x old target.number })) at_key (posted (record { to = to.Directory; message = switch }) (Contains-here (record { to = to.Directory; message = switch }) []));
-    })
-moved_now key s g z h inv grows p handle call live at_key message sent new (was_refused tag replica epoch old target frozen seeded top_gone stage got c is) =
+    }
+moved_now key s g z h inv grows p handle call live at_key message sent new (was_refused tag replica epoch old target frozen seeded top_gone stage got c) =
     let was = seeding_at key s g inv p handle call live at_key old target frozen seeded top_gone stage in
     let held : SeedingHeld key s g (with_bad call.phase replica) old target seeded = record {
       third = was.third;
@@ -192,4 +189,4 @@ moved_now key s g z h inv grows p handle call live at_key message sent new (was_
       frozen = was.frozen;
       counted = was.counted;
     } in
-    subst (After key z h) (sym is) (λ _. seeding_stays key s g z h (with_bad call.phase replica) old target seeded grows inv.epochs.published held)
+    λ _. seeding_stays key s g z h (with_bad call.phase replica) old target seeded grows inv.epochs.published held

@@ -1,6 +1,6 @@
 -- Every event keeps it that the ticket of each put that was answered is held in its epoch.
 use Rattle.std.proofs.Common.{◌≡◌, ◌⊎◌, inl, inr, ℕ, ◌≤◌, true, List, ◌++◌, refl, sym, ap, ◌∙◌, subst, arith}
-use Rattle.std.specs.Prelude.{Some, Contains, max}
+use Rattle.std.specs.Prelude.{Some, Contains}
 use Rattle.std.proofs.lemmas.List.Elements.{Contains-append_left, Contains-append_right, Contains-append_cases}
 use Rattle.span_base.specs.DcSet.{has}
 use Rattle.span_base.specs.declared.ids.Call.{Call}
@@ -28,7 +28,7 @@ use Rattle.world_core.specs.State.{Store, proxy_at, view_at}
 use Rattle.world_core.specs.Knowing.{learned}
 use Rattle.world_core.specs.Calls.{tag_of_call, key_of_call}
 use Rattle.world_core.specs.Step.{Happening, handle_in}
-use Rattle.call_phase.specs.Counting.{with_good, with_bad}
+use Rattle.call_phase.specs.Counting.{with_good}
 use Rattle.register_law.specs.Ghost.{Ghost, noted_of}
 use Rattle.register_law.specs.Seen.{Grows, version_before}
 use Rattle.register_law.specs.Tags.{TagsTellApart}
@@ -37,7 +37,7 @@ use Rattle.register_law.proofs.CallsOthers.{take_end}
 use Rattle.register_law.proofs.Growth.{calls_grow}
 use Rattle.register_law.proofs.MarksAre.{MarkOf, begins_now, takes_now, gives_up, marks_are, mark_of, EndIs, by_message, by_hand, end_is, at_once}
 use Rattle.register_law.proofs.MovesTook.{within_good}
-use Rattle.register_law.proofs.MovesStep.{MoveTook, move_took, unheard, was_current, froze_first, froze_one, froze_all, seeded_next, seeded_all, was_refused, was_stale, arrived}
+use Rattle.register_law.proofs.MovesStep.{MoveTook, move_took, unheard}
 use Rattle.register_law.proofs.TagsCalls.{taken_of, next_is_none}
 use Rattle.eventual_law.specs.Kinds.{IsOfEventual}
 use Rattle.eventual_law.specs.Known.{IsOn, by_life, by_begin}
@@ -47,9 +47,6 @@ use Rattle.eventual_law.proofs.Counted.{held_by, one_more}
 use Rattle.eventual_law.proofs.HeldStays.{held_stays}
 use Rattle.eventual_law.proofs.PutsHeld.{yes_has}
 use Rattle.eventual_law.proofs.PutTurns.{stores}
-use Rattle.eventual_law.proofs.Turns.{ends_other}
-use Rattle.call_phase.specs.Best.{better}
-use Rattle.migration.specs.declared.stage.Stage.TheVariants as g
 use Rattle.register_law.proofs.BegunCalls.{BegunIs, begun_is, begins_next, begun_before, begun_now}
 
 -- the call of a mark of an event is counted after it
@@ -83,16 +80,8 @@ marks_kept key s g h is inv = record {
 
 -- no move answers a put
 took_stores : (X : Type 0) (call : Moving) (taken : Message) (stamp : Stamp) (new : Step Moving) → MoveTook eventual_rule call taken new → new.out.end ≡ Some (r.Stored stamp) → X
-took_stores X call taken stamp new (unheard is) e = ends_other X new (move.unchanged call) (r.Stored stamp) is (λ z. absurd (cc)) e
-took_stores X call taken stamp new (was_current epoch own is) e = ends_other X new (move.ends_current call epoch) (r.Stored stamp) is (λ z. absurd (cc)) e
-took_stores X call taken stamp new (froze_first tag key epoch newest policy newest_policy stage got c apart is) e = ends_other X new (move.freezes call (move.epoch_at epoch policy) (move.epoch_at newest newest_policy)) (r.Stored stamp) is (λ z. absurd (cc)) e
-took_stores X call taken stamp new (froze_one tag replica version mark held old target best stage got c is) e = ends_other X new (move.waits call (with_good call.phase replica) (g.Freezing old target (better best version held))) (r.Stored stamp) is (λ z. absurd (cc)) e
-took_stores X call taken stamp new (froze_all tag replica version mark held old target best found stage got c all b is) e = ends_other X new (move.seeds eventual_rule call old target (with_good call.phase replica).good (Some found)) (r.Stored stamp) is (λ z. absurd (cc)) e
-took_stores X call taken stamp new (seeded_next tag replica old target frozen seeded top_gone stage got c is) e = ends_other X new (move.waits call (with_good call.phase replica) (g.Seeding old target frozen seeded top_gone)) (r.Stored stamp) is (λ z. absurd (cc)) e
-took_stores X call taken stamp new (seeded_all tag replica old target frozen seeded top_gone stage got c stored is) e = ends_other X new (move.switches call old target frozen seeded) (r.Stored stamp) is (λ z. absurd (cc)) e
-took_stores X call taken stamp new (was_refused tag replica epoch old target frozen seeded top_gone stage got c is) e = ends_other X new (move.waits call (with_bad call.phase replica) (g.Seeding old target frozen seeded (max top_gone epoch))) (r.Stored stamp) is (λ z. absurd (cc)) e
-took_stores X call taken stamp new (was_stale epoch own is) e = ends_other X new (move.ends_stale call epoch) (r.Stored stamp) is (λ z. absurd (cc)) e
-took_stores X call taken stamp new (arrived tag key epoch old target frozen seeded stage got c is) e = ends_other X new (move.ends_at call target) (r.Stored stamp) is (λ z. absurd (cc)) e
+took_stores X call taken stamp new unheard e = absurd (cc)
+took_stores X call taken stamp new _ e = absurd (cc)
 
 -- the ticket is held in its epoch, which has been current
 abbrev HeldIn : KeyId → Store → Ghost → Stamp → Type 0

@@ -1,6 +1,6 @@
 -- What a call on an eventual key sends where it takes a message: nothing that carries a version, but for
 -- the Seed of a move, whose version is the greatest of those that it found; a Freeze of the epoch that it is told, and a Switch once enough have what it seeded.
-use Rattle.std.proofs.Common.{◌≡◌, ℕ, Bool, true, false, List, refl, sym, ◌∙◌, subst}
+use Rattle.std.proofs.Common.{◌≡◌, ℕ, Bool, true, false, List, refl, sym}
 use Rattle.std.specs.Prelude.{◌==◌, max, if◌then◌else◌, Option, Some}
 use Rattle.span_base.specs.declared.ids.DcId.{DcId}
 use Rattle.span_base.specs.declared.ids.KeyId.{KeyId}
@@ -29,7 +29,7 @@ use Rattle.migration.specs.Eventual.{eventual as eventual_rule}
 use Rattle.migration.specs.Move.{Moving}
 use Rattle.migration.specs.Move as move
 use Rattle.register_law.proofs.Basics.{Each, each_none, each_one, each_to}
-use Rattle.register_law.proofs.MovesStep.{MoveTook, move_took, unheard, was_current, froze_first, froze_one, froze_all, seeded_next, seeded_all, was_refused, was_stale, arrived}
+use Rattle.register_law.proofs.MovesStep.{MoveTook, move_took, froze_first, froze_all, seeded_all, was_stale}
 use Rattle.eventual_law.specs.Kinds.{CarriesNone}
 
 -- a version counts for a move that freezes, and is among those of which the greatest is kept
@@ -85,23 +85,16 @@ asks : (call : Moving) (taken message : Message) → CarriesNone message → Eac
 asks call taken message none = each_one (MoveSends call taken) (record { to = to.Directory; message = message }) (carries_none none)
 
 took_sends : (call : Moving) (taken : Message) (new : Step Moving) → MoveTook eventual_rule call taken new → new ≡ move.step eventual_rule call taken → Sends call taken new
-took_sends call taken new (unheard is) made = subst (Sends call taken) (sym is) (each_none (MoveSends call taken))
-took_sends call taken new (was_current epoch own is) made = subst (Sends call taken) (sym is) (each_none (MoveSends call taken))
-took_sends call taken new (froze_first tag at epoch newest policy newest_policy stage got c apart is) made =
-    subst (Sends call taken) (sym is) (each_to (MoveSends call taken) (replicas_of policy) (m.Freeze (next_tag call.phase.tag) call.key epoch)
-    (freezes epoch (record { tag = tag; at = at; policy = policy; latest_epoch = newest; latest_policy = newest_policy; stage_is = stage; taken_is = got; own = same_tag call.phase.tag tag c; different = apart; made = sym made ∙ is }) refl))
-took_sends call taken new (froze_one tag replica version mark value old target best stage got c is) made = subst (Sends call taken) (sym is) (each_none (MoveSends call taken))
-took_sends call taken new (froze_all tag replica version mark value old target best found stage got c all e is) made =
-    subst (Sends call taken) (sym is)
-    (each_to (MoveSends call taken) (replicas_of target.policy) (m.Seed (next_tag call.phase.tag) call.key target.number found.stamp found.value)
-    (seeds found target.number (record { old = old; target = target; best = best; stage_is = stage; tag = tag; replica = replica; version = version; mark = mark; value = value; taken_is = got; counted = c; is = e }) refl))
-took_sends call taken new (seeded_next tag replica old target frozen seeded top_gone stage got c is) made = subst (Sends call taken) (sym is) (each_none (MoveSends call taken))
-took_sends call taken new (seeded_all tag replica old target frozen seeded top_gone stage got c stored is) made = subst (Sends call taken) (sym is)
-    (each_one (MoveSends call taken) (record { to = to.Directory; message = m.Switch (next_tag call.phase.tag) call.key old target.number })
-    (switches old target (record { frozen = frozen; seeded = seeded; top_gone = top_gone; stage_is = stage; tag = tag; replica = replica; taken_is = got; counted = c; enough = stored }) refl))
-took_sends call taken new (was_refused tag replica epoch old target frozen seeded top_gone stage got c is) made = subst (Sends call taken) (sym is) (each_none (MoveSends call taken))
-took_sends call taken new (was_stale epoch own is) made = subst (Sends call taken) (sym is) (asks call taken (m.Lookup (next_tag call.phase.tag) call.key) tt)
-took_sends call taken new (arrived tag at epoch old target frozen seeded stage got c is) made = subst (Sends call taken) (sym is) (each_none (MoveSends call taken))
+took_sends call taken new (froze_first tag at epoch newest policy newest_policy stage got c apart) made =
+    each_to (MoveSends call taken) (replicas_of policy) (m.Freeze (next_tag call.phase.tag) call.key epoch)
+    (freezes epoch (record { tag = tag; at = at; policy = policy; latest_epoch = newest; latest_policy = newest_policy; stage_is = stage; taken_is = got; own = same_tag call.phase.tag tag c; different = apart; made = sym made }) refl)
+took_sends call taken new (froze_all tag replica version mark value old target best found stage got c all e) made =
+    each_to (MoveSends call taken) (replicas_of target.policy) (m.Seed (next_tag call.phase.tag) call.key target.number found.stamp found.value)
+    (seeds found target.number (record { old = old; target = target; best = best; stage_is = stage; tag = tag; replica = replica; version = version; mark = mark; value = value; taken_is = got; counted = c; is = e }) refl)
+took_sends call taken new (seeded_all tag replica old target frozen seeded top_gone stage got c stored) made = each_one (MoveSends call taken) (record { to = to.Directory; message = m.Switch (next_tag call.phase.tag) call.key old target.number })
+    (switches old target (record { frozen = frozen; seeded = seeded; top_gone = top_gone; stage_is = stage; tag = tag; replica = replica; taken_is = got; counted = c; enough = stored }) refl)
+took_sends call taken new (was_stale epoch own) made = asks call taken (m.Lookup (next_tag call.phase.tag) call.key) tt
+took_sends call taken new _ made = each_none (MoveSends call taken)
 
 pub move_sends : (call : Moving) (taken : Message) → Each (MoveSends call taken) (move.step eventual_rule call taken).out.posts
 move_sends call taken = took_sends call taken (move.step eventual_rule call taken) (move_took eventual_rule call taken) refl

@@ -1,5 +1,5 @@
 -- How a get comes to give a value, and that no move gives one.
-use Rattle.std.proofs.Common.{◌≡◌, ℕ, Bool, true, false, List, refl, ap, subst, ◌∙◌}
+use Rattle.std.proofs.Common.{◌≡◌, ℕ, Bool, true, false, List, refl, ap, ◌∙◌}
 use Rattle.std.specs.Prelude.{max, if◌then◌else◌, Some}
 use Rattle.span_base.specs.declared.ids.DcId.{DcId}
 use Rattle.ticket_rules.specs.declared.stamp.Stamp.{Stamp}
@@ -9,7 +9,6 @@ use Rattle.wire_msg.specs.declared.outputs.Reply.{Reply}
 use Rattle.wire_msg.specs.Outputs.{Step}
 use Rattle.wire_msg.specs.declared.message.Message.TheVariants as m
 use Rattle.wire_msg.specs.declared.outputs.Reply.TheVariants as r
-use Rattle.call_phase.specs.Best.{better}
 use Rattle.call_phase.specs.Counting.{counts, with_good, with_bad}
 use Rattle.relay_proxy.specs.declared.stage.Stage.{Stage}
 use Rattle.relay_proxy.specs.declared.stage.Stage.TheVariants as d
@@ -18,8 +17,7 @@ use Rattle.relay_proxy.specs.Rule as eventual
 use Rattle.migration.specs.Eventual.{eventual as eventual_rule}
 use Rattle.migration.specs.Move.{Moving}
 use Rattle.migration.specs.Move as move
-use Rattle.migration.specs.declared.stage.Stage.TheVariants as g
-use Rattle.register_law.proofs.MovesStep.{MoveTook, move_took, unheard, was_current, froze_first, froze_one, froze_all, seeded_next, seeded_all, was_refused, was_stale, arrived, counts_own}
+use Rattle.register_law.proofs.MovesStep.{MoveTook, move_took, unheard, counts_own}
 
 -- a get took a version that counted, and gives it
 pub record Gives (call : Eventually) (taken : Message) (stamp : Stamp) (value : List ℕ) : Type 0 where
@@ -63,22 +61,10 @@ gives call (m.Yes tag replica) stamp value e = yes_gives (Gives call (m.Yes tag 
 gives call (m.Gone tag replica epoch) stamp value e = gone_gives (Gives call (m.Gone tag replica epoch) stamp value) call.stage call tag replica epoch stamp value e
 gives call message stamp value e = absurd (cc)
 
--- the reply of a step is that of a step that it is
-pub ends_other : (X : Type 0) (new one : Step Moving) (reply : Reply) → new ≡ one → (one.out.end ≡ Some reply → X) → new.out.end ≡ Some reply → X
-ends_other X new one reply is f e = f (subst (λ (x : Step Moving). x.out.end ≡ Some reply) is e)
-
 -- no move gives a value
 took_gives : (X : Type 0) (call : Moving) (taken : Message) (stamp : Stamp) (value : List ℕ) (new : Step Moving) → MoveTook eventual_rule call taken new → new.out.end ≡ Some (r.Value stamp value) → X
-took_gives X call taken stamp value new (unheard is) e = ends_other X new (move.unchanged call) (r.Value stamp value) is (λ z. absurd (cc)) e
-took_gives X call taken stamp value new (was_current epoch own is) e = ends_other X new (move.ends_current call epoch) (r.Value stamp value) is (λ z. absurd (cc)) e
-took_gives X call taken stamp value new (froze_first tag key epoch newest policy newest_policy stage got c apart is) e = ends_other X new (move.freezes call (move.epoch_at epoch policy) (move.epoch_at newest newest_policy)) (r.Value stamp value) is (λ z. absurd (cc)) e
-took_gives X call taken stamp value new (froze_one tag replica version mark held old target best stage got c is) e = ends_other X new (move.waits call (with_good call.phase replica) (g.Freezing old target (better best version held))) (r.Value stamp value) is (λ z. absurd (cc)) e
-took_gives X call taken stamp value new (froze_all tag replica version mark held old target best found stage got c all b is) e = ends_other X new (move.seeds eventual_rule call old target (with_good call.phase replica).good (Some found)) (r.Value stamp value) is (λ z. absurd (cc)) e
-took_gives X call taken stamp value new (seeded_next tag replica old target frozen seeded top_gone stage got c is) e = ends_other X new (move.waits call (with_good call.phase replica) (g.Seeding old target frozen seeded top_gone)) (r.Value stamp value) is (λ z. absurd (cc)) e
-took_gives X call taken stamp value new (seeded_all tag replica old target frozen seeded top_gone stage got c stored is) e = ends_other X new (move.switches call old target frozen seeded) (r.Value stamp value) is (λ z. absurd (cc)) e
-took_gives X call taken stamp value new (was_refused tag replica epoch old target frozen seeded top_gone stage got c is) e = ends_other X new (move.waits call (with_bad call.phase replica) (g.Seeding old target frozen seeded (max top_gone epoch))) (r.Value stamp value) is (λ z. absurd (cc)) e
-took_gives X call taken stamp value new (was_stale epoch own is) e = ends_other X new (move.ends_stale call epoch) (r.Value stamp value) is (λ z. absurd (cc)) e
-took_gives X call taken stamp value new (arrived tag key epoch old target frozen seeded stage got c is) e = ends_other X new (move.ends_at call target) (r.Value stamp value) is (λ z. absurd (cc)) e
+took_gives X call taken stamp value new unheard e = absurd (cc)
+took_gives X call taken stamp value new _ e = absurd (cc)
 
 pub no_move_gives : (X : Type 0) (call : Moving) (taken : Message) (stamp : Stamp) (value : List ℕ) → (move.step eventual_rule call taken).out.end ≡ Some (r.Value stamp value) → X
 no_move_gives X call taken stamp value = took_gives X call taken stamp value (move.step eventual_rule call taken) (move_took eventual_rule call taken)

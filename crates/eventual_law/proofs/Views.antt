@@ -28,7 +28,7 @@ use Rattle.register_law.specs.Ghost.{Ghost, noted_of}
 use Rattle.register_law.specs.Seen.{WasSent, Grows}
 use Rattle.register_law.specs.Tags.{IsLiveAt}
 use Rattle.register_law.specs.Cases.{Happened}
-use Rattle.register_law.proofs.MovesStep.{MoveTook, move_took, unheard, was_current, froze_first, froze_one, froze_all, seeded_next, seeded_all, was_refused, was_stale, arrived}
+use Rattle.register_law.proofs.MovesStep.{MoveTook, move_took, arrived}
 use Rattle.register_law.proofs.OpeningsShown.{IsViewAt, IsOpenedView, view_stays, shown_at}
 use Rattle.register_law.proofs.ReplicasKept.{view_set, ViewsAfter, same_views, learned_views, shown_views, views_after_event}
 use Rattle.eventual_law.specs.Known.{by_request, by_life}
@@ -70,17 +70,9 @@ pub record HasArrived (call : Moving) (message : Message) (new : Step Moving) : 
   pub is : new ≡ ends_at call target
 
 shows : (call : Moving) (message : Message) (new : Step Moving) → MoveTook eventual_rule call message new → (new.out.view ≡ None) ⊎ HasArrived call message new
-shows call message new (unheard is) = inl (ap (λ (x : Step Moving). x.out.view) is)
-shows call message new (was_current epoch own is) = inl (ap (λ (x : Step Moving). x.out.view) is)
-shows call message new (was_stale epoch own is) = inl (ap (λ (x : Step Moving). x.out.view) is)
-shows call message new (froze_first tag at epoch latest_epoch policy latest_policy stage got c different is) = inl (ap (λ (x : Step Moving). x.out.view) is)
-shows call message new (froze_one tag replica version mark value old target best stage got c is) = inl (ap (λ (x : Step Moving). x.out.view) is)
-shows call message new (froze_all tag replica version mark value old target best found stage got c all e is) = inl (ap (λ (x : Step Moving). x.out.view) is)
-shows call message new (seeded_next tag replica old target frozen seeded top_gone stage got c is) = inl (ap (λ (x : Step Moving). x.out.view) is)
-shows call message new (seeded_all tag replica old target frozen seeded top_gone stage got c stored is) = inl (ap (λ (x : Step Moving). x.out.view) is)
-shows call message new (was_refused tag replica epoch old target frozen seeded top_gone stage got c is) = inl (ap (λ (x : Step Moving). x.out.view) is)
-shows call message new (arrived tag at epoch old target frozen seeded stage got c is) =
-    inr (record { tag = tag; at = at; epoch = epoch; old = old; target = target; frozen = frozen; seeded = seeded; stage_is = stage; message_is = got; own = same_tag call.phase.tag tag c; is = is })
+shows call message new (arrived tag at epoch old target frozen seeded stage got c) =
+    inr (record { tag = tag; at = at; epoch = epoch; old = old; target = target; frozen = frozen; seeded = seeded; stage_is = stage; message_is = got; own = same_tag call.phase.tag tag c; is = refl })
+shows call message new _ = inl refl
 
 -- the view that a move of the key shows at its end
 arrived_view : (key : KeyId) (s : Store) (g : Ghost) → InvOfEventual key s g → (p : ℕ) (message : Message) (call : Moving) (new : Step Moving) → IsLiveAt s p (handle_in message) (EventualMove call) → call.key ≡ key → WasSent s message → (a : HasArrived call message new)

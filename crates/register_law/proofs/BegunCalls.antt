@@ -1,16 +1,13 @@
 -- What is noted of the call that an event begins: its proxy's next one, with its work.
-use Rattle.std.proofs.Common.{◌≡◌, ℕ, ◌+◌, ◌<◌, ◌≤◌, Bool, true, false, List, [], ◌∷◌, ◌++◌, refl, sym, ap, ◌∙◌, subst, arith, ◌==◌, ◌&&◌, if◌then◌else◌, length, Option, Some, None, IsSome, ◌⊎◌, inl, inr, Contains}
-use Rattle.std.proofs.lemmas.Option.{same_Some}
+use Rattle.std.proofs.Common.{◌≡◌, ℕ, ◌+◌, ◌<◌, ◌≤◌, Bool, true, false, List, [], ◌∷◌, ◌++◌, refl, sym, ap, ◌∙◌, subst, arith, ◌==◌, ◌&&◌, if◌then◌else◌, length, Option, Some, None, IsSome, ◌⊎◌, inl, inr}
 use Rattle.std.proofs.lemmas.Bool.{eq-eqb}
-use Rattle.register_law.proofs.Words.{Call, KeyId, Stamp, Reply, current_of, is_same_call, Mark, Work, Proxy, Store, proxy_at, Happening, end_marks, fits_mode, ticket_marks, with_proxy, Happened, call_took, gave_up, next_call, not_published, published, refused_at_once, started, Begun, Ghost, begun_after, is_noted, noted_of, RequestsAreOne, tag_of, Message, Post, Tag, Handle, key_of_call, tag_of_call, ticket_of, view_at, handle_in, is_strong_key, LiveCall, Started, WasSent, IsPushFree, IsSamePoint, TagsTellApart, request_key, none_among}
+use Rattle.register_law.proofs.Words.{Call, KeyId, Stamp, Reply, current_of, is_same_call, Mark, Work, Proxy, Store, proxy_at, Happening, end_marks, fits_mode, ticket_marks, with_proxy, Happened, call_took, gave_up, next_call, not_published, published, refused_at_once, started, Begun, Ghost, begun_after, is_noted, noted_of, RequestsAreOne}
 use Rattle.run_marks.specs.declared.mark.Work.TheVariants as w
 use Rattle.run_marks.specs.declared.mark.Mark.TheVariants as k
 use Rattle.register_order.proofs.Tests.{same_call}
-use Rattle.world_core.specs.Starting.{ticket_marks as begin_marks}
-use Rattle.register_law.proofs.Growth.{step_grows, calls_grow}
-use Rattle.register_law.proofs.Basics.{is_itself, key_is, is_made, sent_or_posted, flipped, some_begun, is_some_of}
-use Rattle.register_law.proofs.TagsCalls.{proxy_is, LiveFrom, older, newer, live_from, next_is_none, started_opens, start_is_fresh, phase_is_fresh}
-use Rattle.register_law.proofs.TagsSent.{IsAnswer, IsPushedOn, PostsAre, none, answered, of_start, of_call, posts_are, Posted, replies, opens, asks, posted, sent_after, call_sends}
+use Rattle.register_law.proofs.Growth.{step_grows}
+use Rattle.register_law.proofs.Basics.{is_itself, key_is, is_made, some_begun, is_some_of}
+use Rattle.register_law.proofs.TagsCalls.{proxy_is}
 
 -- a call of the key that is begun after an event
 pub data BegunIs (key : KeyId) (g : Ghost) (marks : List Mark) (call : Call) : Type 0 where

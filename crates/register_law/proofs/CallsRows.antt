@@ -1,5 +1,5 @@
 -- How a call begins, by what was asked of it; and what holds of each request that a call may send holds of all that it sends.
-use Rattle.std.proofs.Common.{◌≡◌, ℕ, Bool, true, false, List, refl, Option, Some, None, option_map, sym, subst, if◌then◌else◌}
+use Rattle.std.proofs.Common.{◌≡◌, ℕ, Bool, true, false, List, refl, Option, Some, None, option_map, subst, if◌then◌else◌}
 use Rattle.register_law.proofs.Words.{member_of, DcId, Quorum, stamp_zero, Stamp, View, Tag, leg_under, ToRead, ToWrite, Work, Taken, of_eventual, of_eventual_move, of_strong, of_strong_move, opened_call, replicas_of, DcSet, Step, Message, better, counts, next_tag, with_good, Found, counted, is_counted, first_posts, next_of, repair_posts, store_posts, tag_after, Next, Enter, Look, Moved, Repair, Stored, Leg, CallState, directs_below, Epoch, Freezing, Moving, Rule, Seeding, StoreNext as Store, StrongWork}
 use Rattle.strong_proxy.specs.Rule as strong
 use Rattle.relay_proxy.specs.Rule as eventual
@@ -9,7 +9,7 @@ use Rattle.wire_msg.specs.declared.actor.Actor.TheVariants as to
 use Rattle.wire_msg.specs.declared.message.Message.TheVariants as m
 use Rattle.migration.specs.Move.{step}
 use Rattle.register_law.proofs.Basics.{Each, each_none, each_one, each_map, each_to, each_weaker, each_look}
-use Rattle.register_law.proofs.MovesStep.{MoveTook, unheard, was_current, froze_first, froze_one, froze_all, seeded_next, seeded_all, was_refused, was_stale, arrived, move_took}
+use Rattle.register_law.proofs.MovesStep.{MoveTook, froze_first, froze_all, seeded_all, was_stale, move_took}
 use Rattle.std.proofs.lemmas.Option.{same_Some}
 
 -- how a call begins, by what was asked of it: a row for each
@@ -107,23 +107,14 @@ pub data MoveSends (rule : Rule) (call : Moving) (message : Message) : Message �
   switches : (tag : Tag) (replica : DcId) (old : ℕ) (target : Epoch) (frozen : DcSet) (seeded : Stamp) (top_gone : ℕ) → call.stage ≡ Seeding old target frozen seeded top_gone → message ≡ m.Yes tag replica → counts call.phase tag replica ≡ true
       → rule.is_seeded target.policy (with_good call.phase replica) ≡ true → MoveSends rule call message (m.Switch (next_tag call.phase.tag) call.key old target.number)
 
--- whatever a move's step sends
-abbrev Sent : Rule → Moving → Message → Step Moving → Type 0
-Sent rule call message new = Each (MoveSends rule call message) new.out.posts
-
 pub move_sends : (rule : Rule) (call : Moving) (message : Message) (new : Step Moving) → MoveTook rule call message new → Each (MoveSends rule call message) new.out.posts
-move_sends rule call message new (unheard is) = subst (Sent rule call message) (sym is) (each_none (MoveSends rule call message))
-move_sends rule call message new (was_current epoch own is) = subst (Sent rule call message) (sym is) (each_none (MoveSends rule call message))
-move_sends rule call message new (froze_first tag key epoch newest policy newest_policy stage got c apart is) = subst (Sent rule call message) (sym is) (each_to (MoveSends rule call message) (replicas_of policy) (m.Freeze (next_tag call.phase.tag) call.key epoch) (freezes epoch))
-move_sends rule call message new (froze_one tag replica version mark value old target best stage got c is) = subst (Sent rule call message) (sym is) (each_none (MoveSends rule call message))
-move_sends rule call message new (froze_all tag replica version mark value old target best found stage got c quorum e is) =
-    subst (Sent rule call message) (sym is) (each_to (MoveSends rule call message) (rule.seed_set target.policy) (m.Seed (next_tag call.phase.tag) call.key target.number found.stamp found.value) (seeds tag replica version mark value old target best found stage got c e))
-move_sends rule call message new (seeded_next tag replica old target frozen seeded top_gone stage got c is) = subst (Sent rule call message) (sym is) (each_none (MoveSends rule call message))
-move_sends rule call message new (seeded_all tag replica old target frozen seeded top_gone stage got c quorum is) =
-    subst (Sent rule call message) (sym is) (each_one (MoveSends rule call message) (record { to = to.Directory; message = m.Switch (next_tag call.phase.tag) call.key old target.number }) (switches tag replica old target frozen seeded top_gone stage got c quorum))
-move_sends rule call message new (was_refused tag replica epoch old target frozen seeded top_gone stage got c is) = subst (Sent rule call message) (sym is) (each_none (MoveSends rule call message))
-move_sends rule call message new (was_stale epoch own is) = subst (Sent rule call message) (sym is) (each_look (MoveSends rule call message) (next_tag call.phase.tag) call.key looks_up)
-move_sends rule call message new (arrived tag key epoch old target frozen seeded stage got c is) = subst (Sent rule call message) (sym is) (each_none (MoveSends rule call message))
+move_sends rule call message new (froze_first tag key epoch newest policy newest_policy stage got c apart) = each_to (MoveSends rule call message) (replicas_of policy) (m.Freeze (next_tag call.phase.tag) call.key epoch) (freezes epoch)
+move_sends rule call message new (froze_all tag replica version mark value old target best found stage got c quorum e) =
+    each_to (MoveSends rule call message) (rule.seed_set target.policy) (m.Seed (next_tag call.phase.tag) call.key target.number found.stamp found.value) (seeds tag replica version mark value old target best found stage got c e)
+move_sends rule call message new (seeded_all tag replica old target frozen seeded top_gone stage got c quorum) =
+    each_one (MoveSends rule call message) (record { to = to.Directory; message = m.Switch (next_tag call.phase.tag) call.key old target.number }) (switches tag replica old target frozen seeded top_gone stage got c quorum)
+move_sends rule call message new (was_stale epoch own) = each_look (MoveSends rule call message) (next_tag call.phase.tag) call.key looks_up
+move_sends rule call message new _ = each_none (MoveSends rule call message)
 
 pub each_move : (P : Message → Type 0) (rule : Rule) (call : Moving) (message : Message) → ((sent : Message) → MoveSends rule call message sent → P sent) → Each P (step rule call message).out.posts
 each_move P rule call message rows = each_weaker (MoveSends rule call message) P rows (step rule call message).out.posts (move_sends rule call message (step rule call message) (move_took rule call message))

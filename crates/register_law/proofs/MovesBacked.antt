@@ -1,11 +1,11 @@
 -- A move that goes on is backed.
-use Rattle.std.proofs.Common.{◌≡◌, ℕ, ◌<◌, ◌≤◌, true, false, List, refl, sym, ap, ◌∙◌, subst, arith, ◌==◌, Option, Some, None, Contains}
-use Rattle.register_law.proofs.Words.{has, no_centre, faults_of, members_of, DcSet, DcId, KeyId, Policy, Stamp, Step, tag_of, Message, Tag, better, counts, has_quorum, with_good, Found, Phase, Moving, epoch_at, first_write_set, quorum_frozen, strong_rule, Epoch, Freezing, Seeding, Handle, Store, policy_of, Ghost, Inv, FreezesCounted, IsLiveMove, IsMoveRequest, IsTargetOf, MoveBacked, SeedsBacked, YesCounted, Grows, HasMost, IsFrozenSet, IsKnown, IsSettled, MeetsAll, WasSent, is_at_most, version_before, HereBacked, SwitchBacked, request_key, common_steps, has-no_centre, MoveStage as Stage, IsAtMost-trans, none_in}
+use Rattle.std.proofs.Common.{◌≡◌, ℕ, ◌<◌, ◌≤◌, true, false, List, refl, sym, ap, ◌∙◌, subst, arith, ◌==◌, Option, Some, None}
+use Rattle.register_law.proofs.Words.{has, faults_of, members_of, DcSet, DcId, KeyId, Policy, Stamp, Step, tag_of, Message, Tag, better, counts, has_quorum, with_good, Found, Phase, Moving, epoch_at, first_write_set, quorum_frozen, strong_rule, Epoch, Freezing, Seeding, Handle, Store, policy_of, Ghost, Inv, FreezesCounted, IsLiveMove, IsMoveRequest, IsTargetOf, MoveBacked, SeedsBacked, YesCounted, Grows, HasMost, IsFrozenSet, IsKnown, IsSettled, MeetsAll, WasSent, is_at_most, version_before, HereBacked, SwitchBacked, request_key, common_steps, has-no_centre, MoveStage as Stage, IsAtMost-trans, none_in}
 use Rattle.wire_msg.specs.declared.message.Message.TheVariants as m
 use Rattle.call_phase.proofs.Tags.{same_tag}
 use Rattle.migration.specs.declared.stage.Stage.TheVariants.{Looking}
 use Rattle.register_law.proofs.Quorums.{at_most_test}
-use Rattle.register_law.proofs.MovesStep.{MoveTook, unheard, was_current, froze_first, froze_one, froze_all, seeded_next, seeded_all, was_refused, was_stale, arrived, counts_own, counts_asked}
+use Rattle.register_law.proofs.MovesStep.{MoveTook, unheard, froze_first, froze_one, froze_all, seeded_next, seeded_all, was_refused, counts_own, counts_asked}
 use Rattle.register_law.proofs.MovesStable.{IsOut, settled_stays, move_stays, seeds_stay, target_stays, freezes_stay, yes_stays}
 use Rattle.register_law.proofs.MovesTook.{first_member, frozen_meets, most_pass, within_good, yes_more, froze_more, better_some}
 
@@ -36,9 +36,6 @@ pub seed_asked : (key : KeyId) (s : Store) (call : Moving) (old : ℕ) (new : Ep
 seed_asked key s call old new frozen seeded top_gone a at_key stage =
     let is : IsMoveRequest (Seeding old new frozen seeded top_gone) call a.request = subst (λ (x : Stage). IsMoveRequest x call a.request) stage a.is in
     (is.0, subst (WasSent s) (is.1 ∙ ap (λ (x : KeyId). m.Seed call.phase.tag x new.number seeded is.0) at_key) a.sent)
-
-opened_epochs : (key : KeyId) (s : Store) (g : Ghost) → Inv key s g → (e : ℕ) → Contains g.opened e → IsOut s e
-opened_epochs key s g inv e c = inv.openings.published e c
 
 pub not_equal : (a b : ℕ) → a ≤ b → (a == b) ≡ false → a < b
 not_equal a b h k = grind (arith, common_steps)
@@ -105,51 +102,40 @@ switching_now key s g inv p handle call live tag replica old target frozen seede
 -- what a move goes on to is backed
 pub backed_after : (key : KeyId) (s : Store) (g : Ghost) (z : Store) (h : Ghost) → Inv key s g → Grows key s g z h → (p : ℕ) (handle : Handle) (call : Moving) → IsLiveMove key s p handle call → (message : Message) → WasSent s message
     → (new : (Step Moving)) → MoveTook strong_rule call message new → MoveBacked key z h new.state.phase new.state.stage
-backed_after key s g z h inv grows p handle call live message sent new (unheard is) =
-    subst (λ (x : (Step Moving)). MoveBacked key z h x.state.phase x.state.stage) (sym is) (move_stays key s g z h call.phase call.stage grows (opened_epochs key s g inv) ((inv.moves p handle call live).backed))
-backed_after key s g z h inv grows p handle call live message sent new (was_current epoch own is) = subst (λ (x : (Step Moving)). MoveBacked key z h x.state.phase x.state.stage) (sym is) tt
-backed_after key s g z h inv grows p handle call live message sent new (was_stale epoch own is) = subst (λ (x : (Step Moving)). MoveBacked key z h x.state.phase x.state.stage) (sym is) tt
-backed_after key s g z h inv grows p handle call live message sent new (arrived tag at epoch old target frozen seeded stage got c is) = subst (λ (x : (Step Moving)). MoveBacked key z h x.state.phase x.state.stage) (sym is) tt
-backed_after key s g z h inv grows p handle call live message sent new (froze_first tag at epoch newest policy newest_policy stage got c apart is) =
+backed_after key s g z h inv grows p handle call live message sent new unheard =
+    move_stays key s g z h call.phase call.stage grows inv.openings.published ((inv.moves p handle call live).backed)
+backed_after key s g z h inv grows p handle call live message sent new (froze_first tag at epoch newest policy newest_policy stage got c apart) =
     let b = here_is key s g inv p handle call live tag at epoch newest policy newest_policy (subst (WasSent s) got sent) stage (same_tag call.phase.tag tag c) in
     let out = inv.openings.published epoch b.opened in
     let target : IsTargetOf key s g epoch (epoch_at newest newest_policy) = record { opened = b.opened; later = not_equal epoch newest b.within.0 apart; published = b.within.1; policy = b.latest_is } in
-    subst (λ (x : (Step Moving)). MoveBacked key z h x.state.phase x.state.stage) (sym is)
-    (target_stays key s g z h epoch (epoch_at newest newest_policy) grows target, b.policy_is ∙ sym (grows.policies epoch out.0 out.1), refl, λ d. none_of d)
-  where
-    none_of : (d : ℕ) → has no_centre d ≡ false
-    none_of d = has-no_centre d
-backed_after key s g z h inv grows p handle call live message sent new (froze_one tag replica version mark value old target best stage got c is) =
+    (target_stays key s g z h epoch (epoch_at newest newest_policy) grows target, b.policy_is ∙ sym (grows.policies epoch out.0 out.1), refl, has-no_centre)
+backed_after key s g z h inv grows p handle call live message sent new (froze_one tag replica version mark value old target best stage got c) =
     let k : MoveBacked key s g call.phase (Freezing old target best) = subst (MoveBacked key s g call.phase) stage ((inv.moves p handle call live).backed) in
     let b = better_some best version value in
     let out = inv.openings.published old.number k.0.opened in
     let f = found_frozen key s g inv p handle call live tag replica version mark value old target best b.0 (subst (WasSent s) got sent) stage c b.1 in
-    subst (λ (x : (Step Moving)). MoveBacked key z h x.state.phase x.state.stage) (sym is)
-    (subst (λ (x : Option Found). MoveBacked key z h (with_good call.phase replica) (Freezing old target x)) (sym b.1)
-    (target_stays key s g z h old.number target grows k.0, k.1 ∙ sym (grows.policies old.number out.0 out.1), k.2, freezes_stay key s g z h (with_good call.phase replica) b.0 grows f))
-backed_after key s g z h inv grows p handle call live message sent new (froze_all tag replica version mark value old target best found stage got c quorum e is) =
+    subst (λ (x : Option Found). MoveBacked key z h (with_good call.phase replica) (Freezing old target x)) (sym b.1)
+    (target_stays key s g z h old.number target grows k.0, k.1 ∙ sym (grows.policies old.number out.0 out.1), k.2, freezes_stay key s g z h (with_good call.phase replica) b.0 grows f)
+backed_after key s g z h inv grows p handle call live message sent new (froze_all tag replica version mark value old target best found stage got c quorum e) =
     let k : MoveBacked key s g call.phase (Freezing old target best) = subst (MoveBacked key s g call.phase) stage ((inv.moves p handle call live).backed) in
     let have : WasSent s (m.Have tag replica version mark value) = subst (WasSent s) got sent in
     let f = found_frozen key s g inv p handle call live tag replica version mark value old target best found have stage c e in
     let freeze = freeze_asked key s call old target best (answers_move key s g inv p handle call live (m.Have tag replica version mark value) have refl (counts_own call.phase tag replica c)) live.at_key stage in
     let set : IsFrozenSet key s g old.number (with_good call.phase replica).good found.stamp = frozen_now key s g inv call old (with_good call.phase replica).good (with_good call.phase replica) found freeze k.1 quorum f in
-    subst (λ (x : (Step Moving)). MoveBacked key z h x.state.phase x.state.stage) (sym is)
-    (seeds_stay key s g z h old.number target (with_good call.phase replica).good found.stamp grows (opened_epochs key s g inv) (record { target = k.0; frozen_set = set }), refl, λ d some. absurd (none_in d some))
-backed_after key s g z h inv grows p handle call live message sent new (seeded_next tag replica old target frozen seeded top_gone stage got c is) =
+    (seeds_stay key s g z h old.number target (with_good call.phase replica).good found.stamp grows inv.openings.published (record { target = k.0; frozen_set = set }), refl, λ d some. absurd (none_in d some))
+backed_after key s g z h inv grows p handle call live message sent new (seeded_next tag replica old target frozen seeded top_gone stage got c) =
     let k : MoveBacked key s g call.phase (Seeding old target frozen seeded top_gone) = subst (MoveBacked key s g call.phase) stage ((inv.moves p handle call live).backed) in
     let same = counts_own call.phase tag replica c in
     let said = yes_more s call.phase replica k.2 (subst (λ (x : Tag). WasSent s (m.Yes x replica)) (sym same) (subst (WasSent s) got sent)) in
-    subst (λ (x : (Step Moving)). MoveBacked key z h x.state.phase x.state.stage) (sym is)
-    (seeds_stay key s g z h old target frozen seeded grows (opened_epochs key s g inv) k.0, k.1, yes_stays key s g z h (with_good call.phase replica) grows said)
-backed_after key s g z h inv grows p handle call live message sent new (seeded_all tag replica old target frozen seeded top_gone stage got c quorum is) =
+    (seeds_stay key s g z h old target frozen seeded grows inv.openings.published k.0, k.1, yes_stays key s g z h (with_good call.phase replica) grows said)
+backed_after key s g z h inv grows p handle call live message sent new (seeded_all tag replica old target frozen seeded top_gone stage got c quorum) =
     let b = switching_now key s g inv p handle call live tag replica old target frozen seeded top_gone (subst (WasSent s) got sent) stage c quorum in
     let later = b.0.target.later in
-    subst (λ (x : (Step Moving)). MoveBacked key z h x.state.phase x.state.stage) (sym is)
-    (seeds_stay key s g z h old target frozen seeded grows (opened_epochs key s g inv) b.0, settled_stays key s g z h target.number seeded grows (omega arith, b.0.target.published) b.1)
-backed_after key s g z h inv grows p handle call live message sent new (was_refused tag replica epoch old target frozen seeded top_gone stage got c is) =
+    (seeds_stay key s g z h old target frozen seeded grows inv.openings.published b.0, settled_stays key s g z h target.number seeded grows (omega arith, b.0.target.published) b.1)
+backed_after key s g z h inv grows p handle call live message sent new (was_refused tag replica epoch old target frozen seeded top_gone stage got c) =
     let k : MoveBacked key s g call.phase (Seeding old target frozen seeded top_gone) = subst (MoveBacked key s g call.phase) stage ((inv.moves p handle call live).backed) in
-    subst (λ (x : (Step Moving)). MoveBacked key z h x.state.phase x.state.stage) (sym is)
-    (seeds_stay key s g z h old target frozen seeded grows (opened_epochs key s g inv) k.0, k.1, yes_stays key s g z h call.phase grows k.2)
+    (seeds_stay key s g z h old target frozen seeded grows inv.openings.published k.0, k.1, yes_stays key s g z h call.phase grows k.2)
+backed_after key s g z h inv grows p handle call live message sent new _ = tt
 
 -- a Switch that a move sends is backed
 pub switch_backed : (key : KeyId) (s : Store) (g : Ghost) → Inv key s g → (p : ℕ) (handle : Handle) (call : Moving) → IsLiveMove key s p handle call → (tag : Tag) (replica : DcId) (old : ℕ) (target : Epoch) (frozen : DcSet) (seeded : Stamp) (top_gone : ℕ)

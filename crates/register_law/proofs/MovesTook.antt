@@ -7,7 +7,7 @@ use Rattle.wire_msg.specs.declared.message.Message.TheVariants as m
 use Rattle.span_base.specs.declared.policy.Policy.TheVariants.{Strong}
 use Rattle.migration.specs.Strong.{is_stopped}
 use Rattle.register_law.proofs.Basics.{Each, each_one, each_to}
-use Rattle.register_law.proofs.MovesStep.{MoveTook, unheard, was_current, froze_first, froze_one, froze_all, seeded_next, seeded_all, was_refused, was_stale, arrived, counts_asked}
+use Rattle.register_law.proofs.MovesStep.{MoveTook, unheard, froze_first, froze_one, froze_all, seeded_next, seeded_all, was_refused, counts_asked}
 use Rattle.register_law.proofs.Quorums.{count_mono, members_meet}
 use Rattle.std.proofs.lemmas.Bool.{and_from}
 
@@ -146,16 +146,12 @@ pub none_within : (set : DcSet) (tag : Tag) → Within (has (opened tag set).goo
 none_within set tag d some = absurd (none_in d some)
 
 pub took_within : (call : Moving) (message : Message) (new : (Step Moving)) → MoveTook strong_rule call message new → Within (has call.phase.good) (has call.phase.asked) → TookWithin new
-took_within call message new (unheard is) k = subst TookWithin (sym is) k
-took_within call message new (was_current epoch own is) k = subst TookWithin (sym is) k
-took_within call message new (was_stale epoch own is) k = subst TookWithin (sym is) k
-took_within call message new (arrived tag at epoch old target frozen seeded stage got c is) k = subst TookWithin (sym is) k
-took_within call message new (froze_first tag at epoch newest policy newest_policy stage got c apart is) k = subst TookWithin (sym is) (none_within (replicas_of policy) (next_tag call.phase.tag))
-took_within call message new (froze_one tag replica version mark value old target best stage got c is) k = subst TookWithin (sym is) (within_good call.phase tag replica c k)
-took_within call message new (froze_all tag replica version mark value old target best found stage got c quorum e is) k = subst TookWithin (sym is) (none_within (first_write_set target.policy) (next_tag call.phase.tag))
-took_within call message new (seeded_next tag replica old target frozen seeded top_gone stage got c is) k = subst TookWithin (sym is) (within_good call.phase tag replica c k)
-took_within call message new (seeded_all tag replica old target frozen seeded top_gone stage got c quorum is) k = subst TookWithin (sym is) (none_within no_centre (next_tag call.phase.tag))
-took_within call message new (was_refused tag replica epoch old target frozen seeded top_gone stage got c is) k = subst TookWithin (sym is) k
+took_within call message new (froze_first tag at epoch newest policy newest_policy stage got c apart) k = none_within (replicas_of policy) (next_tag call.phase.tag)
+took_within call message new (froze_one tag replica version mark value old target best stage got c) k = within_good call.phase tag replica c k
+took_within call message new (froze_all tag replica version mark value old target best found stage got c quorum e) k = none_within (first_write_set target.policy) (next_tag call.phase.tag)
+took_within call message new (seeded_next tag replica old target frozen seeded top_gone stage got c) k = within_good call.phase tag replica c k
+took_within call message new (seeded_all tag replica old target frozen seeded top_gone stage got c quorum) k = none_within no_centre (next_tag call.phase.tag)
+took_within call message new _ k = k
 
 -- what a move had asked before its step, and what it asks at it
 pub record Asking (s : Store) (call : Moving) : Type 0 where
@@ -183,30 +179,22 @@ same_phase s call asking request (before sent) some same = asking.old request se
 same_phase s call asking request (now to c) some same = absurd (let lt = c.1 in omega arith)
 
 pub took_request : (s : Store) (call : Moving) (message : Message) → Asking s call → (new : (Step Moving)) → MoveTook strong_rule call message new → new.out.end ≡ None → (request : Message) → Asked s new.out.posts request → IsSome (request_key request) → TookRequest request new
-took_request s call message asking new (unheard is) none request asked some =
-    subst (TookRequest request) (sym is) (same_phase s call asking request (subst (λ (x : (Step Moving)). Asked s x.out.posts request) is asked) some)
-took_request s call message asking new (was_current epoch own is) none request asked some = absurd (let e = subst (λ (x : (Step Moving)). x.out.end ≡ None) is none in cc)
-took_request s call message asking new (was_stale epoch own is) none request asked some = absurd (let e = subst (λ (x : (Step Moving)). x.out.end ≡ None) is none in cc)
-took_request s call message asking new (arrived tag at epoch old target frozen seeded stage got c is) none request asked some = absurd (let e = subst (λ (x : (Step Moving)). x.out.end ≡ None) is none in cc)
-took_request s call message asking new (froze_first tag at epoch newest policy newest_policy stage got c apart is) none request asked some =
+took_request s call message asking new unheard none request asked some =
+    same_phase s call asking request asked some
+took_request s call message asking new (froze_first tag at epoch newest policy newest_policy stage got c apart) none request asked some =
     let freeze : Message = m.Freeze (next_tag call.phase.tag) call.key epoch in
-    subst (TookRequest request) (sym is)
-    (new_phase s call asking request freeze (posts_to (replicas_of policy) freeze) (each_to (λ (x : Message). x ≡ freeze) (replicas_of policy) freeze refl) (subst (λ (x : (Step Moving)). Asked s x.out.posts request) is asked))
-took_request s call message asking new (froze_one tag replica version mark value old target best stage got c is) none request asked some =
-    subst (TookRequest request) (sym is)
-    (λ same. subst (λ (x : Stage). IsMoveRequest x call request) stage (same_phase s call asking request (subst (λ (x : (Step Moving)). Asked s x.out.posts request) is asked) some same))
-took_request s call message asking new (froze_all tag replica version mark value old target best found stage got c quorum e is) none request asked some =
+    new_phase s call asking request freeze (posts_to (replicas_of policy) freeze) (each_to (λ (x : Message). x ≡ freeze) (replicas_of policy) freeze refl) asked
+took_request s call message asking new (froze_one tag replica version mark value old target best stage got c) none request asked some =
+    λ same. subst (λ (x : Stage). IsMoveRequest x call request) stage (same_phase s call asking request asked some same)
+took_request s call message asking new (froze_all tag replica version mark value old target best found stage got c quorum e) none request asked some =
     let seed : Message = m.Seed (next_tag call.phase.tag) call.key target.number found.stamp found.value in
-    subst (TookRequest request) (sym is)
-    (λ same. (found.value, new_phase s call asking request seed (posts_to (first_write_set target.policy) seed) (each_to (λ (x : Message). x ≡ seed) (first_write_set target.policy) seed refl) (subst (λ (x : (Step Moving)). Asked s x.out.posts request) is asked) same))
-took_request s call message asking new (seeded_next tag replica old target frozen seeded top_gone stage got c is) none request asked some =
-    subst (TookRequest request) (sym is)
-    (λ same. subst (λ (x : Stage). IsMoveRequest x call request) stage (same_phase s call asking request (subst (λ (x : (Step Moving)). Asked s x.out.posts request) is asked) some same))
-took_request s call message asking new (seeded_all tag replica old target frozen seeded top_gone stage got c quorum is) none request asked some =
+    λ same. (found.value, new_phase s call asking request seed (posts_to (first_write_set target.policy) seed) (each_to (λ (x : Message). x ≡ seed) (first_write_set target.policy) seed refl) asked same)
+took_request s call message asking new (seeded_next tag replica old target frozen seeded top_gone stage got c) none request asked some =
+    λ same. subst (λ (x : Stage). IsMoveRequest x call request) stage (same_phase s call asking request asked some same)
+took_request s call message asking new (seeded_all tag replica old target frozen seeded top_gone stage got c quorum) none request asked some =
     let switch : Message = m.Switch (next_tag call.phase.tag) call.key old target.number in
     let post : Post = record { to = to.Directory; message = switch } in
-    subst (TookRequest request) (sym is)
-    (new_phase s call asking request switch (post ∷ []) (each_one (λ (x : Message). x ≡ switch) post refl) (subst (λ (x : (Step Moving)). Asked s x.out.posts request) is asked))
-took_request s call message asking new (was_refused tag replica epoch old target frozen seeded top_gone stage got c is) none request asked some =
-    subst (TookRequest request) (sym is)
-    (λ same. subst (λ (x : Stage). IsMoveRequest x call request) stage (same_phase s call asking request (subst (λ (x : (Step Moving)). Asked s x.out.posts request) is asked) some same))
+    new_phase s call asking request switch (post ∷ []) (each_one (λ (x : Message). x ≡ switch) post refl) asked
+took_request s call message asking new (was_refused tag replica epoch old target frozen seeded top_gone stage got c) none request asked some =
+    λ same. subst (λ (x : Stage). IsMoveRequest x call request) stage (same_phase s call asking request asked some same)
+took_request s call message asking new _ none request asked some = absurd (cc)

@@ -9,7 +9,7 @@ use Rattle.strong_proxy.proofs.Asked.{progress_after-leg}
 use Rattle.strong_proxy.proofs.Endings.{progress_after-key}
 use Rattle.migration.specs.Move.{step}
 use Rattle.relay_proxy.specs.Rule as eventual
-use Rattle.register_law.proofs.MovesStep.{counted_tag, MoveTook, move_took, unheard, was_current, froze_first, froze_one, froze_all, seeded_next, seeded_all, was_refused, was_stale, arrived}
+use Rattle.register_law.proofs.MovesStep.{counted_tag, MoveTook, move_took, froze_first, froze_all, seeded_all, was_stale}
 use Rattle.register_law.proofs.Basics.{either, each_map}
 use Rattle.register_law.proofs.Next.{EntersWith, rests_on}
 use Rattle.register_law.proofs.TagsSends.{SendsOne, GoesOn, stays, turns, ends, copies_to, sends_none, sends_each, sends_only, never, sends_look}
@@ -82,16 +82,11 @@ abbrev MoveGoes : (Moving → LiveCall) → Moving → Step Moving → Type 0
 MoveGoes live call x = GoesOn never call.phase.tag call.key (live x.state) x.out
 
 took_goes : (live : Moving → LiveCall) → IsMoveAmong live → (rule : Rule) (call : Moving) (message : Message) (new : Step Moving) → MoveTook rule call message new → MoveGoes live call new
-took_goes live among rule call message new (unheard is) = subst (MoveGoes live call) (sym is) (stays (among.key call) (among.tag call) refl)
-took_goes live among rule call message new (was_current epoch own is) = subst (MoveGoes live call) (sym is) (stays (among.key _) (among.tag _) refl)
-took_goes live among rule call message new (froze_first tag key epoch newest policy newest_policy at got c d is) = subst (MoveGoes live call) (sym is) (turns (among.key _) (among.tag _) (sends_each never (next_tag call.phase.tag) call.key (m.Freeze (next_tag call.phase.tag) call.key epoch) (replicas_of policy) refl refl tt refl))
-took_goes live among rule call message new (froze_one tag replica version mark value old target best at got c is) = subst (MoveGoes live call) (sym is) (stays (among.key _) (among.tag _) refl)
-took_goes live among rule call message new (froze_all tag replica version mark value old target best found at got c q b is) = subst (MoveGoes live call) (sym is) (turns (among.key _) (among.tag _) (sends_each never (next_tag call.phase.tag) call.key (m.Seed (next_tag call.phase.tag) call.key target.number found.stamp found.value) (rule.seed_set target.policy) refl refl tt refl))
-took_goes live among rule call message new (seeded_next tag replica old target frozen seeded top_gone at got c is) = subst (MoveGoes live call) (sym is) (stays (among.key _) (among.tag _) refl)
-took_goes live among rule call message new (seeded_all tag replica old target frozen seeded top_gone at got c q is) = subst (MoveGoes live call) (sym is) (turns (among.key _) (among.tag _) (sends_only never (next_tag call.phase.tag) call.key (record { to = to.Directory; message = m.Switch (next_tag call.phase.tag) call.key old target.number }) refl refl tt refl))
-took_goes live among rule call message new (was_refused tag replica epoch old target frozen seeded top_gone at got c is) = subst (MoveGoes live call) (sym is) (stays (among.key _) (among.tag _) refl)
-took_goes live among rule call message new (was_stale epoch own is) = subst (MoveGoes live call) (sym is) (ends (among.key _) (among.tag _) refl (sends_look never (next_tag call.phase.tag) call.key))
-took_goes live among rule call message new (arrived tag key epoch old target frozen seeded at got c is) = subst (MoveGoes live call) (sym is) (stays (among.key _) (among.tag _) refl)
+took_goes live among rule call message new (froze_first tag key epoch newest policy newest_policy at got c d) = turns (among.key _) (among.tag _) (sends_each never (next_tag call.phase.tag) call.key (m.Freeze (next_tag call.phase.tag) call.key epoch) (replicas_of policy) refl refl tt refl)
+took_goes live among rule call message new (froze_all tag replica version mark value old target best found at got c q b) = turns (among.key _) (among.tag _) (sends_each never (next_tag call.phase.tag) call.key (m.Seed (next_tag call.phase.tag) call.key target.number found.stamp found.value) (rule.seed_set target.policy) refl refl tt refl)
+took_goes live among rule call message new (seeded_all tag replica old target frozen seeded top_gone at got c q) = turns (among.key _) (among.tag _) (sends_only never (next_tag call.phase.tag) call.key (record { to = to.Directory; message = m.Switch (next_tag call.phase.tag) call.key old target.number }) refl refl tt refl)
+took_goes live among rule call message new (was_stale epoch own) = ends (among.key _) (among.tag _) refl (sends_look never (next_tag call.phase.tag) call.key)
+took_goes live among rule call message new _ = stays (among.key _) (among.tag _) refl
 
 pub move_goes_on : (live : Moving → LiveCall) → IsMoveAmong live → (rule : Rule) (call : Moving) (message : Message) → GoesOn never call.phase.tag call.key (live (step rule call message).state) (step rule call message).out
 move_goes_on live among rule call message = took_goes live among rule call message (step rule call message) (move_took rule call message)
