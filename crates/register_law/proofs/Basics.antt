@@ -41,8 +41,7 @@ either {X} P false one other p q = q
 -- what reads or writes as a register is noted
 pub register_noted : (work : Work) → is_register_work work ≡ true → is_noted work ≡ true
 register_noted w.Read h = refl
-register_noted (w.Write value) h = refl
-register_noted work h = absurd (cc)
+register_noted work h = cc
 
 -- ---- tests that say that two keys or calls are one, and tags of one phase of one call
 
@@ -61,8 +60,6 @@ flipped a b same = record { call = sym same.call; phase = sym same.phase }
 
 pub joined : (a b c : Tag) → IsSamePoint a b → IsSamePoint b c → IsSamePoint a c
 joined a b c one two = record { call = one.call ∙ two.call; phase = one.phase ∙ two.phase }
-
--- ---- numbers, keys and tests that agree
 
 -- ---- what an event made, by what it was: the one equation that every case has
 
@@ -113,8 +110,6 @@ sent_grows s h is post c = subst (λ (x : List Post). Contains x post) (sym (sen
 -- what is new was posted by the event
 pub sent_or_posted : (s : Store) (h : Happening) → Happened s h → (post : Post) → Contains h.store.sent post → Contains s.sent post ⊎ Contains h.posts post
 sent_or_posted s h is post c = Contains-append_cases s.sent h.posts post (subst (λ (x : List Post). Contains x post) (sent_behind s h is) c)
-
--- ---- what holds of each message of a list, and of what an event sends
 
 -- an event sends the message
 abbrev pub WasPosted : Happening → Message → Type 0

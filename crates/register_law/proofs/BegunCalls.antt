@@ -58,10 +58,8 @@ begun_noted key s g h call work rest noted is = subst (λ (x : Option Begun). Is
 
 -- what a strong key is asked for is noted
 pub strong_noted : (work : Work) → fits_mode true work ≡ true → is_noted work ≡ true
-strong_noted w.Get h = absurd (cc)
-strong_noted w.GetAny h = absurd (cc)
-strong_noted (w.Put value) h = absurd (cc)
-strong_noted work h = refl
+strong_noted w.Get h = cc
+strong_noted work h = cc
 
 some_stays : (one other : Option Begun) → ((b : Begun) → one ≡ Some b → other ≡ Some b) → IsSome one → IsSome other
 some_stays None other f h = absurd (cc)

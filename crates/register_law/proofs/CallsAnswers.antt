@@ -141,11 +141,7 @@ counting key s g call message is sent b = absurd (cc)
 -- what counts is an answer
 counted_no_request : (call : CallState) (message : Message) → is_counted call message ≡ true → request_key message ≡ None
 counted_no_request call (m.Have tag replica version mark value) is = refl
-counted_no_request call (m.Yes tag replica) is = refl
-counted_no_request call (m.Held tag replica stamp) is = refl
-counted_no_request call (m.Gone tag replica epoch) is = refl
-counted_no_request call (m.Here tag at epoch policy latest_epoch latest_policy) is = refl
-counted_no_request call message is = absurd (cc)
+counted_no_request call message is = cc
 
 -- the request that a phase's answer was given to
 pub record PhaseRequest (s : Store) (call : CallState) : Type 0 where

@@ -1,4 +1,4 @@
--- How a call begins, by what was asked of it; and what holds of each request that a call may send holds of all that it sends.
+-- How a call begins, by what was asked of it, and what each call sends: a row for each request.
 use Rattle.std.proofs.Common.{◌≡◌, ℕ, Bool, true, false, List, refl, Option, Some, None, option_map, subst, if◌then◌else◌}
 use Rattle.register_law.proofs.Words.{member_of, DcId, Quorum, stamp_zero, Stamp, View, Tag, leg_under, ToRead, ToWrite, Work, Taken, of_eventual, of_eventual_move, of_strong, of_strong_move, opened_call, replicas_of, DcSet, Step, Message, better, counts, next_tag, with_good, Found, counted, is_counted, first_posts, next_of, repair_posts, store_posts, tag_after, Next, Enter, Look, Moved, Repair, Stored, Leg, CallState, directs_below, Epoch, Freezing, Moving, Rule, Seeding, StoreNext as Store, StrongWork}
 use Rattle.strong_proxy.specs.Rule as strong

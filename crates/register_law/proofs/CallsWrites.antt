@@ -1,6 +1,6 @@
 -- How a call's step ends it, as stored or never to be stored; and what the ends of writes tell stays so.
-use Rattle.std.proofs.Common.{◌≡◌, ℕ, Bool, true, false, refl, sym, ap, ◌∙◌, if◌then◌else◌, option_map, Option, Some, None, ◌⊎◌, inl, inr, ◌≤◌, List, subst, IsSome, Contains}
-use Rattle.register_law.proofs.Words.{Stamp, Step, tag_of, Message, Reply, View, Found, counted, is_counted, done, next_of, nothing_done, value_reply, Next, Fenced, Moved, NumbersOut, Outside, Stored, Unsure, Value, Progress, Stage, CallState, is_dead, Strong, StoresOnly, StrongWork as Work, Store as World, Call, KeyId, Post, Tag, best_stamp, eventual_rule, strong_rule, EndsWith, key_of_call, tag_of_call, proxy_at, Happening, handle_in, LiveCall, Eventual, EventualMove, StrongMove, CallTook, Happened, StoredBy, Begun, Ghost, noted_of, Inv, WasSent, Handle, IsLiveAt, Contains-append_cases, StoreNext as Store, none_among}
+use Rattle.std.proofs.Common.{◌≡◌, ℕ, Bool, true, refl, sym, ap, ◌∙◌, if◌then◌else◌, option_map, Option, Some, None, ◌⊎◌, inl, inr, ◌≤◌, List, subst, IsSome, Contains}
+use Rattle.register_law.proofs.Words.{Stamp, Step, tag_of, Message, Reply, View, Found, counted, is_counted, done, next_of, nothing_done, value_reply, Next, Fenced, Moved, NumbersOut, Outside, Stored, Value, Progress, Stage, CallState, is_dead, Strong, StoresOnly, StrongWork as Work, Store as World, Call, KeyId, Post, Tag, best_stamp, eventual_rule, strong_rule, EndsWith, key_of_call, tag_of_call, proxy_at, Happening, handle_in, LiveCall, Eventual, EventualMove, StrongMove, CallTook, Happened, StoredBy, Begun, Ghost, noted_of, Inv, WasSent, Handle, IsLiveAt, Contains-append_cases, StoreNext as Store, none_among}
 use Rattle.wire_msg.specs.declared.outputs.Reply.TheVariants as r
 use Rattle.strong_proxy.specs.Rule.{step}
 use Rattle.wire_msg.specs.declared.message.Message.TheVariants as m
@@ -20,6 +20,7 @@ use Rattle.register_law.proofs.Basics.{WasPosted, sent_cases, is_some_of}
 use Rattle.register_law.proofs.Growth.{grows_by, begun_old}
 use Rattle.register_law.proofs.CallsMessages.{rests_by, write_work}
 use Rattle.register_law.proofs.MarksAre.{marks_are, EndIs, at_once, by_message, by_hand, end_is}
+use Rattle.std.proofs.lemmas.Option.{none-some}
 
 pub ends_stored : (now : CallState) (next : Next) (stamp : Stamp) → (done next now).out.end ≡ Some (r.Stored stamp) → (next ≡ Stored) × (now.progress.leg.ticket ≡ stamp)
 ends_stored now Stored stamp h = (refl, cc)
@@ -38,12 +39,6 @@ IsDeadNext Outside = Unit {0}
 IsDeadNext NumbersOut = Unit {0}
 IsDeadNext _ = ⊥
 
-not_dead : (one reply : Reply) (P : Type 0) → Some one ≡ Some reply → is_dead one ≡ false → is_dead reply ≡ true → P
-not_dead one reply P e a b = absurd (let same : one ≡ reply = cc in let x : is_dead one ≡ true = ap is_dead same ∙ b in cc)
-
-none_ends : (reply : Reply) (P : Type 0) → None ≡ Some reply → P
-none_ends reply P e = absurd (cc)
-
 pub ends_dead : (now : CallState) (next : Next) (reply : Reply) → (done next now).out.end ≡ Some reply → is_dead reply ≡ true → IsDeadNext next
 ends_dead now Fenced reply h d = tt
 ends_dead now Moved reply h d = tt
@@ -52,11 +47,9 @@ ends_dead now NumbersOut reply h d = tt
 ends_dead now Value reply h d = by now.best h
   where
     by : (best : Option Found) → option_map value_reply best ≡ Some reply → ⊥
-    by None h = none_ends reply ⊥ h
-    by (Some found) h = not_dead (value_reply found) reply ⊥ h refl d
-ends_dead now Stored reply h d = not_dead (r.Stored now.progress.leg.ticket) reply ⊥ h refl d
-ends_dead now Unsure reply h d = not_dead r.Unsure reply ⊥ h refl d
-ends_dead now next reply h d = none_ends reply ⊥ h
+    by None h = cc
+    by (Some found) h = cc
+ends_dead now next reply h d = absurd (cc)
 
 -- a call that ends so has sent no Store
 pub dead_stores : (stage : Stage) (work : Work) (best : Option Stamp) (p : Progress) (view : View) (seen : ℕ) (next : Next) (ticket stamp : Stamp) → IsDeadNext next → RestsOn stage work best p view seen next → StoresOnly work stage ticket stamp → ⊥
@@ -71,7 +64,7 @@ move_not_stored o stamp m e = move_never o (r.Stored stamp) ⊥ m e (λ n k. cc)
 
 pub move_not_dead : (o : Option Reply) (reply : Reply) → IsMoveEnd o → o ≡ Some reply → is_dead reply ≡ true → ⊥
 move_not_dead o reply m e d =
-    move_never o reply ⊥ m e (λ n z. (let x = sym (ap is_dead z) ∙ d in cc)) (λ n z. (let x = sym (ap is_dead z) ∙ d in cc)) (λ n z. (let x = sym (ap is_dead z) ∙ d in cc))
+    move_never o reply ⊥ m e (λ n z. cc) (λ n z. cc) (λ n z. cc)
 
 -- a strong call that ends at a message counts it
 pub record EndsCounted (was : CallState) (message : Message) (next : Next) (reply : Reply) : Type 0 where
@@ -85,7 +78,7 @@ strong_ends s p message was reply h =
   where
     by : (made : (Step CallState)) → StrongStep was message (view_by s p message was) (seen_by s p message) made → made.out.end ≡ Some reply → EndsCounted was message (next_by s p message was) reply
     by made (counts_it counts own is) e = record { counts = counts; own = own; end = sym (ap (λ (x : (Step CallState)). x.out.end) is) ∙ e }
-    by made (ignores_it is) e = none_ends reply (EndsCounted was message (next_by s p message was) reply) (sym (ap (λ (x : (Step CallState)). x.out.end) is) ∙ e)
+    by made (ignores_it is) e = absurd (none-some reply (sym (ap (λ (x : (Step CallState)). x.out.end) is) ∙ e))
 
 -- the step of a message that counts
 pub counted_step_is : (call : CallState) (message : Message) (view : View) (seen : ℕ) → is_counted call message ≡ true → step call message view seen ≡ done (next_of (counted call message) view seen) (counted call message)

@@ -34,7 +34,7 @@ pub record AnsweredNow (key : KeyId) (s : Store) (g : Ghost) (h : Happening) (ca
 
 move_answers_none : (o : Option Reply) (reply : Reply) (stamp : Stamp) → IsMoveEnd o → o ≡ Some reply → answered_with reply ≡ Some stamp → ⊥
 move_answers_none o reply stamp q e a =
-    move_never o reply ⊥ q e (λ n z. (let x = sym (ap answered_with z) ∙ a in cc)) (λ n z. (let x = sym (ap answered_with z) ∙ a in cc)) (λ n z. (let x = sym (ap answered_with z) ∙ a in cc))
+    move_never o reply ⊥ q e (λ n z. cc) (λ n z. cc) (λ n z. cc)
 
 pub answered_now : (key : KeyId) (s : Store) (g : Ghost) (h : Happening) → Happened s h → Inv key s g → (call : Call) (reply : Reply) (stamp : Stamp) → IsSome ((noted_of key s h g).begun call) → Contains h.marks (k.End call reply) → answered_with reply ≡ Some stamp → AnsweredNow key s g h call reply
 answered_now key s g h is inv call reply stamp some c answered = by (end_is s h (marks_are s h is) call reply c)
@@ -94,11 +94,6 @@ given_is now (Some found) reply best h = gives found refl best (cc)
 pub answer_is : (next : Next) (now : CallState) (reply : Reply) (stamp : Stamp) → answered_with reply ≡ Some stamp → (done next now).out.end ≡ Some reply → AnswerIs now next reply
 answer_is n.Value now reply stamp a h = given_is now now.best reply refl h
 answer_is n.Stored now reply stamp a h = confirms refl (cc)
-answer_is n.Fenced now reply stamp a h = absurd (let e : r.Fenced now.progress.top_held ≡ reply = cc in let none : None ≡ Some stamp = ap answered_with e ∙ a in cc)
-answer_is n.Unsure now reply stamp a h = absurd (let e : r.Unsure ≡ reply = cc in let none : None ≡ Some stamp = ap answered_with e ∙ a in cc)
-answer_is n.Moved now reply stamp a h = absurd (let e : r.Moved now.progress.top_gone ≡ reply = cc in let none : None ≡ Some stamp = ap answered_with e ∙ a in cc)
-answer_is n.Outside now reply stamp a h = absurd (let e : r.Outside ≡ reply = cc in let none : None ≡ Some stamp = ap answered_with e ∙ a in cc)
-answer_is n.NumbersOut now reply stamp a h = absurd (let e : r.NumbersOut ≡ reply = cc in let none : None ≡ Some stamp = ap answered_with e ∙ a in cc)
 answer_is next now reply stamp a h = absurd (cc)
 
 -- the counted call of an answer

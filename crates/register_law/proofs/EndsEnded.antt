@@ -120,9 +120,8 @@ live_marked_after key s g h is inv p handle live lives = by (live_from s h is p 
 -- ---- the greatest answer and the tickets after every event
 
 pub dead_answers_none : (reply : Reply) → is_dead reply ≡ true → answered_with reply ≡ None
-dead_answers_none (r.Value stamp value) h = absurd (cc)
-dead_answers_none (r.Stored stamp) h = absurd (cc)
-dead_answers_none reply h = refl
+dead_answers_none r.GivenUp h = cc
+dead_answers_none reply h = cc
 
 begun_true : (o : Option Begun) → IsSome o → is_begun o ≡ true
 begun_true None h = absurd (cc)

@@ -110,15 +110,8 @@ known_after key s h stamp value is (inr stored) = inr (record { tag = stored.tag
 
 -- the key of a request to a replica is its key
 pub is_request : (message : Message) (key : KeyId) → key_of message ≡ Some key → request_key message ≡ Some key
-is_request (m.Lookup tag at) key a = absurd (cc)
-is_request (m.Switch tag at closing opening) key a = absurd (cc)
-is_request (m.Have tag replica version mark value) key a = absurd (cc)
-is_request (m.Yes tag replica) key a = absurd (cc)
-is_request (m.Held tag replica stamp) key a = absurd (cc)
-is_request (m.Gone tag replica epoch) key a = absurd (cc)
-is_request (m.Here tag at epoch policy latest_epoch latest_policy) key a = absurd (cc)
-is_request (m.Switched tag at done epoch) key a = absurd (cc)
-is_request message key a = a
+is_request (m.Lookup tag at) key a = cc
+is_request message key a = cc
 
 pub request_of : (message : Message) (key other : KeyId) → key_of message ≡ Some key → request_key message ≡ Some other → other ≡ key
 request_of message key other a b = let e = is_request message key a in cc
