@@ -33,6 +33,7 @@ usage:
   span plan WORLD [BUDGET]  plans the world in a file, and writes the plan
   span check WORLD PLAN     checks the plan in a file against a world, and writes what it shows
   span replay SCHEDULE      runs the schedule in a file, and writes what its clients see
+  span replay-kept SCHEDULE runs one whose replicas keep journals, crash and come back
   span audit LOG            judges the log in a file, and writes what it has
   span loop SCRIPT          runs the script in a file, its messages over TCP on this machine
   span gen N                runs N calls whose events are drawn, 0 to 20,000, and writes how they ended

@@ -5,6 +5,7 @@ pub mod Endings
 pub mod Auditing
 pub mod Generating
 pub mod Replaying
+pub mod Restarting
 pub mod Checking
 pub mod ReplayLaws
 pub mod Looping

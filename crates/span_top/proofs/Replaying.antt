@@ -9,9 +9,9 @@ use Rattle.schedule_replay.specs.declared.fault.ReplayFault.TheVariants as fault
 use Rattle.span_top.specs.declared.status.Status.{Status}
 use Rattle.span_top.specs.declared.status.Status.TheVariants as status
 use Rattle.span_top.specs.WholeFile.{Holds, ReadsFile}
-use Rattle.span_top.specs.Replayed.{ReplaysFile, ReplayCommandEnds, BytesReplayed}
+use Rattle.span_top.specs.Replayed.{RunsFile, ReplayCommandEnds, BytesReplayed}
 
-scheduled : (files : Option Files) (name bytes : List ℕ) (old new : Option (List ℕ)) (result : Result ℕ ReplayFault) → Holds files name bytes → length bytes ≤ 67108864 → ReplayEnds bytes old new result → ReplaysFile files name old new result
+scheduled : (files : Option Files) (name bytes : List ℕ) (old new : Option (List ℕ)) (result : Result ℕ ReplayFault) → Holds files name bytes → length bytes ≤ 67108864 → ReplayEnds bytes old new result → RunsFile ReplayEnds files name old new result
 scheduled files name bytes old new result held within is = record { bytes = bytes; held = held; within = within; is = is }
 
 pub replays : (bytes : List ℕ) (old new : Option (List ℕ)) (messages : ℕ) → ReplayEnds bytes old new (Ok messages) → BytesReplayed bytes old new status.Done

@@ -2,11 +2,11 @@
 use Rattle.std.specs.Prelude.{◌≡◌, ℕ, List, Option, Some, None}
 use Rattle.span_base.specs.Files.{Files}
 use Rattle.span_node.specs.Traffic.{Traffic}
-use Rattle.span_top.specs.Words.{Asked, a_plan, a_check, a_replay, an_audit, a_loop, a_run_of, command_of}
+use Rattle.span_top.specs.Words.{Asked, a_plan, a_check, a_replay, a_kept_replay, an_audit, a_loop, a_run_of, command_of}
 use Rattle.span_top.specs.Planned.{PlanEnds}
 use Rattle.span_top.specs.Audited.{AuditEnds}
 use Rattle.span_top.specs.Generated.{GenEnds}
-use Rattle.span_top.specs.Replayed.{ReplayCommandEnds}
+use Rattle.span_top.specs.Replayed.{ReplayCommandEnds, ReplayKeptEnds}
 use Rattle.span_top.specs.Checked.{CheckEnds}
 use Rattle.span_top.specs.Looped.{LoopCommandEnds, DoesNothing, untold}
 use Rattle.span_top.specs.Codes.{code_of}
@@ -20,6 +20,7 @@ Ends None files old new from now status = (status ≡ Usage) × DoesNothing old 
 Ends (Some (a_plan name budget)) files old new from now status = PlanEnds files name budget old new status × (now ≡ from)
 Ends (Some (a_check world plan)) files old new from now status = CheckEnds files world plan old new status × (now ≡ from)
 Ends (Some (a_replay name)) files old new from now status = ReplayCommandEnds files name old new status × (now ≡ from)
+Ends (Some (a_kept_replay name)) files old new from now status = ReplayKeptEnds files name old new status × (now ≡ from)
 Ends (Some (an_audit name)) files old new from now status = AuditEnds files name old new status × (now ≡ from)
 Ends (Some (a_loop name)) files old new from now status = LoopCommandEnds files name old new from now status
 Ends (Some (a_run_of calls)) files old new from now status = GenEnds calls old new status × (now ≡ from)

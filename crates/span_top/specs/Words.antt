@@ -6,12 +6,13 @@ use Rattle.span_top.specs.declared.command.Command.{Command}
 use Rattle.span_top.specs.declared.command.Command.TheVariants as command
 
 -- what the words ask for: a plan of the world in a named file, with at most so many tree lines a set;
--- the check of a plan of a world, both in named files; the run of the schedule in a named file; the audit of the log in a named file;
+-- the check of a plan of a world, both in named files; the run of the schedule in a named file, and the one whose replicas crash; the audit of the log in a named file;
 -- the run of the script in a named file over a link; or a run of so many calls
 pub data Asked : Type 0 where
   a_plan : List ℕ → ℕ → Asked
   a_check : List ℕ → List ℕ → Asked
   a_replay : List ℕ → Asked
+  a_kept_replay : List ℕ → Asked
   an_audit : List ℕ → Asked
   a_loop : List ℕ → Asked
   a_run_of : ℕ → Asked
@@ -37,12 +38,13 @@ abbrev pub run_within : Option ℕ → Option Asked
 run_within None = None
 run_within (Some calls) = Some (a_run_of calls)
 
--- what two words ask for: `plan WORLD`, with 1,000,000 tree lines a set, `replay SCHEDULE`, `audit LOG`, `gen N` with at most 20,000 calls, or
+-- what two words ask for: `plan WORLD`, with 1,000,000 tree lines a set, `replay SCHEDULE`, `replay-kept SCHEDULE`, `audit LOG`, `gen N` with at most 20,000 calls, or
 -- `loop SCRIPT`
 abbrev pub short_command : List ℕ → List ℕ → Option Asked
 short_command word last =
     if bytes_eq word (codes "plan") then asked_where (is_file last) (a_plan last 1000000)
     else if bytes_eq word (codes "replay") then asked_where (is_file last) (a_replay last)
+    else if bytes_eq word (codes "replay-kept") then asked_where (is_file last) (a_kept_replay last)
     else if bytes_eq word (codes "audit") then asked_where (is_file last) (an_audit last)
     else if bytes_eq word (codes "gen") then run_within (number_between 0 20000 last)
     else asked_where (bytes_eq word (codes "loop") && is_file last) (a_loop last)
@@ -72,5 +74,6 @@ asked_by (command.Plan world budget) = a_plan world.now budget
 asked_by (command.Audit log) = an_audit log.now
 asked_by (command.Check world plan) = a_check world.now plan.now
 asked_by (command.Replay schedule) = a_replay schedule.now
+asked_by (command.ReplayKept schedule) = a_kept_replay schedule.now
 asked_by (command.Gen calls) = a_run_of calls
 asked_by (command.Loop script) = a_loop script.now

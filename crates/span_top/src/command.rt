@@ -1,6 +1,6 @@
 ghost use Rattle.std.specs.Prelude.{◌≡◌, if◌then◌else◌, option_map, None, IfSome, ◌≤◌, ◌&&◌, codes};
 ghost use Rattle.std.specs.Str.{bytes_eq};
-ghost use Rattle.span_top.specs.Words.{number_between, is_file, a_plan, a_check, a_replay, an_audit, a_loop, a_run_of, run_within, asked_where, short_command, long_command, plan_within, command_of, asked_by};
+ghost use Rattle.span_top.specs.Words.{number_between, is_file, a_plan, a_check, a_replay, a_kept_replay, an_audit, a_loop, a_run_of, run_within, asked_where, short_command, long_command, plan_within, command_of, asked_by};
 
 use span_base::{Word, read_number};
 
@@ -14,6 +14,9 @@ pub enum Command<'a> {
     Check { world: &'a str, plan: &'a str },
     /// `replay SCHEDULE`: the run of the schedule in the file of this name.
     Replay { schedule: &'a str },
+    /// `replay-kept SCHEDULE`: the run of the schedule in the file of this name, whose replicas crash
+    /// and come back.
+    ReplayKept { schedule: &'a str },
     /// `audit LOG`: the audit of the log in the file of this name.
     Audit { log: &'a str },
     /// `gen N`: a run of so many calls whose events are drawn.
@@ -49,6 +52,9 @@ fn short_command<'a>(word: &str, last: &'a Word) -> Option<Command<'a>>
     if word == "replay" {
         return replay_command(last);
     }
+    if word == "replay-kept" {
+        return replay_kept_command(last);
+    }
     if word == "audit" {
         return audit_command(last);
     }
@@ -81,6 +87,17 @@ fn replay_command(schedule: &Word) -> Option<Command<'_>>
     }
     let schedule = schedule.as_str();
     Some(Command::Replay { schedule })
+}
+
+// The command to run a schedule whose replicas crash, where its file has a name.
+fn replay_kept_command(schedule: &Word) -> Option<Command<'_>>
+    ensures { option_map asked_by result ≡ asked_where (is_file schedule.now) (a_kept_replay schedule.now) }
+{
+    if schedule.is_empty() {
+        return None;
+    }
+    let schedule = schedule.as_str();
+    Some(Command::ReplayKept { schedule })
 }
 
 // The command to audit a log, where its file has a name.

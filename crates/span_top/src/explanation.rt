@@ -121,7 +121,7 @@ fn has_lines(words: &[Word], file: u8) -> bool {
         return false;
     };
     match word.as_str() {
-        "replay" | "audit" | "loop" => true,
+        "replay" | "replay-kept" | "audit" | "loop" => true,
         "check" => file == 1,
         _ => false,
     }

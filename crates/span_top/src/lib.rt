@@ -11,6 +11,7 @@ mod loop_laws;
 mod plan_command;
 pub mod plan_laws;
 mod replay_command;
+mod replay_kept_command;
 mod replay_laws;
 mod run;
 mod status;

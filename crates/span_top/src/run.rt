@@ -11,6 +11,7 @@ use crate::gen_command::generate_calls;
 use crate::loop_command::loop_script;
 use crate::plan_command::plan;
 use crate::replay_command::replay_schedule;
+use crate::replay_kept_command::replay_kept_schedule;
 use crate::status::Status;
 use frame_link::Link;
 use planner::Watch;
@@ -19,7 +20,7 @@ use std::alloc::Global;
 
 /// Does what the words ask, with files from the shelf, the output to the sink, and the messages of
 /// `loop` over the link. Who waits for a plan may look on.
-#[tactic(auto, using(crate::proofs::Endings::never, crate::proofs::Auditing::never, crate::proofs::Generating::never, crate::proofs::Replaying::never, crate::proofs::Checking::checks_usage, crate::proofs::Looping::never))]
+#[tactic(auto, using(crate::proofs::Endings::never, crate::proofs::Auditing::never, crate::proofs::Generating::never, crate::proofs::Replaying::never, crate::proofs::Restarting::never, crate::proofs::Checking::checks_usage, crate::proofs::Looping::never))]
 pub fn span<S: Shelf, K: Sink, L: Link, W: Watch>(
     alloc: Global,
     words: &[Word],
@@ -45,6 +46,9 @@ pub fn span<S: Shelf, K: Sink, L: Link, W: Watch>(
         Some(Command::Audit { log }) => audit_log(alloc, log, shelf, out),
         Some(Command::Check { world, plan }) => check(alloc, world, plan, shelf, out),
         Some(Command::Replay { schedule }) => replay_schedule(alloc, schedule, shelf, out),
+        Some(Command::ReplayKept { schedule }) => {
+            replay_kept_schedule(alloc, schedule, shelf, out)
+        }
         Some(Command::Loop { script }) => loop_script(alloc, script, shelf, out, link),
         Some(Command::Gen { calls }) => generate_calls(alloc, calls, out),
         Some(Command::Plan { world, budget }) => plan(alloc, world, budget, shelf, out, watch),
