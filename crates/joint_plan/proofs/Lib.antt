@@ -4,3 +4,7 @@ pub mod Adding
 pub mod Costs
 pub mod Texts
 pub mod Refusing
+pub mod OtherLines
+pub mod PlanRead
+pub mod Numbers
+pub mod Judged

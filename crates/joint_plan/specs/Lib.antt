@@ -4,3 +4,6 @@ pub mod Shown
 pub mod Faults
 pub mod Writes
 pub mod Examples
+pub mod Lines
+pub mod Stops
+pub mod Checks

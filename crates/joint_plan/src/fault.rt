@@ -1,6 +1,7 @@
 ghost use Rattle.std.specs.Prelude.{◌≡◌};
 
 use joint_placement::JointFault as ProgramFault;
+use plan_check::CheckFault;
 use planner::PlanFault;
 use span_base::What;
 use std::alloc::AllocError;
@@ -53,5 +54,41 @@ impl From<ProgramFault> for JointFault {
             ProgramFault::Limit { what, number } => JointFault::Limit { what, number },
             ProgramFault::NoMemory(_) => JointFault::NoMemory,
         }
+    }
+}
+
+/// Why a joint plan isn't accepted. The first thing that is met decides; the joint program comes
+/// before the file.
+#[derive(Clone, Copy, Debug, PartialEq, Eq)]
+pub enum JointCheckFault {
+    /// The joint program would pass a limit: on its variables, else on its rows, else on their
+    /// weight.
+    Limit { what: What, number: u128 },
+    /// The file isn't that of an accepted joint plan, or wasn't read, or nothing could be told.
+    Check(CheckFault),
+}
+
+impl From<ProgramFault> for JointCheckFault {
+    ghost use Rattle.std.specs.Prelude.{◌≡◌};
+    ghost use Rattle.joint_plan.specs.Faults.{limit_fault};
+
+    ghost from_gives = { λ program fault. fault ≡ limit_fault program };
+
+    fn from(fault: ProgramFault) -> JointCheckFault {
+        match fault {
+            ProgramFault::Limit { what, number } => JointCheckFault::Limit { what, number },
+            ProgramFault::NoMemory(_) => JointCheckFault::Check(CheckFault::NoMemory),
+        }
+    }
+}
+
+impl From<CheckFault> for JointCheckFault {
+    ghost use Rattle.std.specs.Prelude.{◌≡◌};
+    ghost use Rattle.joint_plan.specs.declared.fault.JointCheckFault.TheVariants.{Check};
+
+    ghost from_gives = { λ check fault. fault ≡ Check check };
+
+    fn from(fault: CheckFault) -> JointCheckFault {
+        JointCheckFault::Check(fault)
     }
 }

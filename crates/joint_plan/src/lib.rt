@@ -2,13 +2,23 @@
 //! together, with a tree that shows it; and any file of one judged.
 #![tactic(auto)]
 
+mod check;
 mod cost;
+mod due;
 mod ending;
 mod fault;
+mod fleet;
+mod forms;
+mod frame;
+mod judge;
 mod laws;
 mod plan;
+mod sets;
+#[cfg(test)]
+mod tests;
 mod text;
 
-pub use fault::JointFault;
+pub use check::check_joint;
+pub use fault::{JointCheckFault, JointFault};
 pub use laws::worked_texts;
 pub use plan::plan_joint;

@@ -19,9 +19,10 @@ pub use fault::{CheckFault, refuse_policy};
 pub use lines::PlanLines;
 pub use part::is_fed;
 pub use policy_lines::read_policy_lines;
+pub use set_word::is_name;
 pub use told::{hand_over, is_wanting, say};
 pub use tree::{Claim, read_tree};
-pub use word::{behind, is_number};
+pub use word::{behind, is_number, number_in};
 
 #[cfg(test)]
 mod tests;

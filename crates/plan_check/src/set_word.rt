@@ -10,7 +10,7 @@ use memchr::memchr;
 use span_base::{Cause, read_name};
 
 /// Whether a text is a name.
-fn is_name(text: &[u8]) -> bool
+pub fn is_name(text: &[u8]) -> bool
     ensures { IsTrue result ↔ IsName text.now }
 {
     read_name(text).is_ok()

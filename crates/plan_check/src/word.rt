@@ -42,7 +42,7 @@ pub fn is_number(text: &[u8]) -> bool
 }
 
 /// The number of at most 38 digits that a text is.
-fn number_in(text: &[u8]) -> Option<u128>
+pub fn number_in(text: &[u8]) -> Option<u128>
     ensures { IsNumberIn text.now result }
 {
     match read_number(text, u128::MAX) {
