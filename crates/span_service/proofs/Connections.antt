@@ -1,6 +1,6 @@
 -- One connection after another.
-use Rattle.std.proofs.Common.{ℕ, ◌≡◌, ◌+◌, ◌≤◌, List, [], ◌∷◌, ◌++◌, length, map, Option, Some, None, Ok, Err, refl, sym, ◌∙◌, ap, subst, arith, append_assoc, length-append}
-use Rattle.std.specs.Prelude.{⊤, Result, IsErrOf, IfOk, OnOk}
+use Rattle.std.proofs.Common.{ℕ, ◌≡◌, ◌+◌, List, [], ◌∷◌, ◌++◌, map, Option, Some, None, Ok, Err, refl, sym, ◌∙◌, ap, subst, arith, append_assoc, length-append}
+use Rattle.std.specs.Prelude.{Result, IsErrOf, IfOk, OnOk}
 use Rattle.std.specs.List.{AllByRecursion, flat_map}
 use Rattle.std.proofs.lemmas.List.{append-nil, map-append}
 use Rattle.std.proofs.lemmas.Grind.{flat_map-append}
@@ -13,8 +13,8 @@ use Rattle.span_service.specs.declared.serve_fault.ServeFault.{ServeFault}
 use Rattle.span_service.specs.declared.serve_fault.ServeFault.TheVariants as serve
 use Rattle.span_service.specs.Doors.{Visit, Told, Accepts, visits_of}
 use Rattle.span_service.specs.Serving.{Moment, Ends}
-use Rattle.span_service.specs.Visits.{Connection, Line, Scene, AreServed, IsService, HaveCome, Come, AreVisited, IsPresentServed, connection_line, line_text, line_of, served_line, visit_of}
-use Rattle.span_service.specs.Endings.{IsPlain, IsFull, Outcomes, line_told}
+use Rattle.span_service.specs.Visits.{Connection, Line, Scene, AreServed, IsService, Come, AreVisited, IsPresentServed, connection_line, line_text, line_of, served_line, visit_of}
+use Rattle.span_service.specs.Endings.{IsPlain, Outcomes, line_told}
 use Rattle.span_service.specs.declared.ending.Outcome.{Outcome}
 use Rattle.span_service.specs.declared.visit_fault.VisitFault.{VisitFault}
 

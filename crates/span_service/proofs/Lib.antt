@@ -1,8 +1,9 @@
+mod Accepting
 mod Ahead
 mod Connections
 mod Ends
 mod Fronts
 mod Giving
+mod Numbers
 mod Refilling
 mod Rounds
-mod Numbers

@@ -1,5 +1,5 @@
 -- How a service of connections ends.
-use Rattle.std.specs.Prelude.{ℕ, ◌≡◌, ◌≤◌, List, codes, ⊤, Option, Some, None, Result, Ok, Err}
+use Rattle.std.specs.Prelude.{ℕ, ◌≡◌, ◌≤◌, List, codes, ⊤, Some, Result, Ok, Err}
 use Rattle.wire_msg.specs.declared.message.Message.{Message}
 use Rattle.replica_core.specs.Taking.{IsTooMuch}
 use Rattle.span_service.specs.declared.ending.Ending.{Ending}

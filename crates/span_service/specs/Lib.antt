@@ -12,3 +12,4 @@ pub mod Serving
 pub mod Visits
 pub mod Statuses
 pub mod Words
+pub mod MemDoors

@@ -6,8 +6,9 @@ use Rattle.span_base.specs.declared.sink.DeviceFault.TheVariants as device
 use Rattle.replica_journal.specs.declared.disk.Failed.{Failed}
 use Rattle.span_service.specs.Pieces.{without}
 
--- the pieces that it has yet to give, the bytes that it took, and its calls
+-- the pieces that it gives, what is left of them, the bytes that it took, and its calls
 pub record HeldStream : Type 0 where
+  pub all : List (List ℕ)
   pub left : List (List ℕ)
   pub taken : List ℕ
   pub calls : CallRecord

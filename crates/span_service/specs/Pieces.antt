@@ -27,3 +27,8 @@ first_of pieces = front_of (trimmed pieces)
 -- the pieces without the first n bytes of the first one that has something left
 abbrev pub without : ℕ → List (List ℕ) → List (List ℕ)
 without n pieces = left_behind n (trimmed pieces)
+
+-- pieces, and what is left of them
+pub record HeldPieces : Type 0 where
+  pub all : List (List ℕ)
+  pub left : List (List ℕ)

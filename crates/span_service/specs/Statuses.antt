@@ -1,5 +1,5 @@
 -- How the serving of a replica ends.
-use Rattle.std.specs.Prelude.{ℕ, ◌≡◌, ◌⊎◌, ⊤, List, ◌++◌, length, Option, Some, None}
+use Rattle.std.specs.Prelude.{ℕ, ◌≡◌, ◌⊎◌, ⊤, List, length, Option, Some, None}
 use Rattle.span_base.specs.Taken.{Appends}
 use Rattle.wire_msg.specs.declared.message.Message.{Message}
 use Rattle.replica_core.specs.Rule.{State, opening_state}

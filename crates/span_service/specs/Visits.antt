@@ -8,7 +8,7 @@ use Rattle.replica_core.specs.Rule.{State}
 use Rattle.span_service.specs.declared.serve_fault.ServeFault.{ServeFault}
 use Rattle.span_service.specs.declared.serve_fault.ServeFault.TheVariants.{Bad, Torn, Limit, ReadFault, WriteFault, Taker, NoMemory}
 use Rattle.span_service.specs.Doors.{Visit, Told, visits_of}
-use Rattle.span_service.specs.Serving.{Moment, Ends}
+use Rattle.span_service.specs.Serving.{Ends}
 
 -- a served connection: the bytes that it had to give, those taken when it came and when it was served, where they
 -- are told, the count of faults at either time, and how its service ended

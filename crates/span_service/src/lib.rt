@@ -7,6 +7,7 @@ mod ending;
 mod front;
 mod input;
 mod line;
+mod mem_door;
 mod mem_stream;
 mod pieces;
 mod plan;
@@ -22,6 +23,7 @@ mod visiting;
 mod writing;
 
 pub use door::Door;
+pub use mem_door::MemDoor;
 pub use mem_stream::MemStream;
 pub use plan::port_of;
 pub use replica_service::{Served, serve_all};

@@ -27,14 +27,14 @@ impl Model for MemStream {
 
     ghost Value = { HeldStream };
 
-    ghost view = { λ s. record { left = s.pieces; taken = s.taken.items; calls = s.calls } };
+    ghost view = { λ s. record { all = s.pieces.all; left = s.pieces.left; taken = s.taken.items; calls = s.calls } };
 }
 
 impl MemStream {
     /// A stream that gives these pieces and has taken nothing. `failing` are the numbers of the
     /// calls that fail, counted from 1. Calls past the end of a `u64` all have its last number.
     pub fn make(alloc: Global, pieces: Vec<Bytes>, failing: Vec<u64>) -> MemStream
-        ensures { result ≡ record { left = pieces.items; taken = []; calls = record { failing = failing.items; made = 0; faults = 0 } } }
+        ensures { result ≡ record { all = pieces.items; left = pieces.items; taken = []; calls = record { failing = failing.items; made = 0; faults = 0 } } }
     {
         MemStream {
             pieces: Pieces::new(pieces),

@@ -15,17 +15,16 @@ pub(crate) struct Pieces {
 }
 
 impl Model for Pieces {
-    ghost use Rattle.std.specs.Prelude.{ℕ, List};
-    ghost use Rattle.span_service.specs.Pieces.{left_of};
+    ghost use Rattle.span_service.specs.Pieces.{HeldPieces, left_of};
 
-    ghost Value = { List (List ℕ) };
+    ghost Value = { HeldPieces };
 
-    ghost view = { λ p. left_of p.pieces.items p.passed p.used };
+    ghost view = { λ p. record { all = p.pieces.items; left = left_of p.pieces.items p.passed p.used } };
 }
 
 impl Pieces {
     pub(crate) fn new(pieces: Vec<Bytes>) -> Pieces
-        ensures { result ≡ pieces.items }
+        ensures { result ≡ record { all = pieces.items; left = pieces.items } }
     {
         Pieces {
             pieces,
@@ -37,9 +36,9 @@ impl Pieces {
     /// Gives the front of the first piece that has something left, as much as there is room for.
     pub(crate) fn give(&mut self, buf: &mut [u8]) -> usize
         requires { 0 < length buf.old }
-        ensures count { result ≡ min (length (first_of self.old)) (length buf.new) }
-        ensures bytes { take result buf.new ≡ take result (first_of self.old) }
-        ensures after { self.new ≡ without result self.old }
+        ensures count { result ≡ min (length (first_of self.old.left)) (length buf.new) }
+        ensures bytes { take result buf.new ≡ take result (first_of self.old.left) }
+        ensures after { self.new ≡ record self.old { left = without result self.old.left } }
     {
         self.pass();
         if self.passed >= self.pieces.len() {
@@ -57,7 +56,7 @@ impl Pieces {
     // Passes the pieces that have nothing left.
     #[tactic(auto, using(crate::proofs::Giving::untouched))]
     fn pass(&mut self)
-        ensures { self.new ≡ trimmed self.old }
+        ensures { self.new ≡ record self.old { left = trimmed self.old.left } }
     {
         while self.passed < self.pieces.len() && self.used >= self.pieces[self.passed].len() {
             self.passed += 1;

@@ -1,4 +1,4 @@
-use Rattle.span_service.proofs.Connections.{outcome_served, plain}
+use Rattle.span_service.proofs.Connections.{outcome_served}
 use Rattle.span_service.proofs.visiting.serve_present.Goals as goal
 
 pub returns-clause-served : goal.returns-clause-served
