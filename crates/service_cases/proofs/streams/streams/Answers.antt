@@ -1,4 +1,4 @@
-use Rattle.std.proofs.Common.{All, [], ◌∷◌, ◌++◌, List, sym, subst, ap, ◌∙◌, arith}
+use Rattle.std.proofs.Common.{All, [], ◌∷◌, sym, subst, ap, ◌∙◌, arith}
 use Rattle.std.proofs.lemmas.List.Elements.{All-append, All-cons}
 use Rattle.span_service.specs.Memory.{HeldStream}
 use Rattle.span_service.specs.MemDoors.{IsUnused}
