@@ -46,6 +46,7 @@ pub fn serve_all<G: Door, D: Disk, K: Sink>(
     ensures refusals_stay { (G.Stream.around door.old).refusals ≤ (G.Stream.around door.new).refusals }
     ensures damaged { (at : ℕ) → result.status ≡ ServeStatus.Damaged at → IsDamaged (plan_of words.now) (D.told disk) at }
     ensures full { (bytes : ℕ) → result.status ≡ ServeStatus.Full bytes → IsFull bytes }
+    ensures untouched { plan_of words.now ≡ None → (result.disk ≡ disk) × (K.taken out.new ≡ K.taken out.old) × (G.Stream.around door.new ≡ G.Stream.around door.old) }
 {
     let Some(plan) = plan_of(words) else {
         return Served {
