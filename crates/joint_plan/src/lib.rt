@@ -14,8 +14,6 @@ mod judge;
 mod laws;
 mod plan;
 mod sets;
-#[cfg(test)]
-mod tests;
 mod text;
 
 pub use check::check_joint;
