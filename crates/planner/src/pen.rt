@@ -76,11 +76,7 @@ impl Pen {
     }
 
     /// Puts a line of a tree.
-    pub fn put_tree_line<K: Sink>(
-        &mut self,
-        out: &mut K,
-        line: &Line,
-    ) -> Result<(), PlanFault>
+    pub fn put_tree_line<K: Sink>(&mut self, out: &mut K, line: &Line) -> Result<(), PlanFault>
         ensures tells { (from : Option (List ℕ)) (text : List ℕ) → IsSaid from (K.taken out.old) self.old text
             → Tells from (K.taken out.new) self.new (text ++ tree_line line.now) result }
 
