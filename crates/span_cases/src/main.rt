@@ -3,6 +3,7 @@
 //! its line on standard error, and its exit status.
 #![tactic(auto)]
 
+mod crashes;
 mod deals;
 mod faults;
 mod files;

@@ -22,6 +22,9 @@ pub struct Run {
     /// The last file is cut at each of its lengths in turn; a length is told where its status line
     /// is another than that of the length before.
     pub each_front: bool,
+    /// The last file is a schedule, and a replica crashes before each of its deliveries in turn, at
+    /// each call of its disk.
+    pub each_crash: bool,
     /// What is written becomes the file of this name, and isn't told.
     pub into: Option<String>,
 }
@@ -41,6 +44,7 @@ pub fn run_of(
         no_trees: false,
         in_words: false,
         each_front: false,
+        each_crash: false,
         into: None,
     };
     let Some(options) = options else {
@@ -80,6 +84,7 @@ fn take_option(alloc: Global, run: &mut Run, option: &str) -> Result<bool, Alloc
     match option {
         "each-fault" => run.each_fault = true,
         "each-front" => run.each_front = true,
+        "each-crash" => run.each_crash = true,
         "no-trees" => run.no_trees = true,
         "in-words" => run.in_words = true,
         _ => return Ok(take_failing_call(run, option)),

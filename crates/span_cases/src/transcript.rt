@@ -1,3 +1,4 @@
+use crate::crashes::tell_each_crash;
 use crate::deals::deals_of;
 use crate::faults::{Faults, failing};
 use crate::files::Files;
@@ -15,6 +16,8 @@ pub fn tell_run(rt: &HostRuntime, files: &mut Files, run: &Run) -> io::Result<()
         tell_each_fault(rt, files, run)
     } else if run.each_front {
         tell_each_front(rt, files, run)
+    } else if run.each_crash {
+        tell_crashes(rt, files, run)
     } else {
         let end = tell(rt, files, run, run.faults)?;
         keep(files, run, &end)
@@ -115,6 +118,17 @@ fn tell_each_front(rt: &HostRuntime, files: &Files, run: &Run) -> io::Result<()>
     Ok(())
 }
 
+// Runs the last file, a schedule, with each crash that may be.
+fn tell_crashes(rt: &HostRuntime, files: &Files, run: &Run) -> io::Result<()> {
+    let Some(last) = entries_of(rt, files, run)?.pop() else {
+        return println!(rt; "no file");
+    };
+    match str::from_utf8(last.bytes.as_slice()) {
+        Ok(schedule) => tell_each_crash(rt, run, last.name.as_str(), schedule),
+        Err(_) => println!(rt; "no text"),
+    }
+}
+
 // The status line of a run in which the last file is cut at this length.
 fn front_line(
     rt: &HostRuntime,
@@ -144,10 +158,10 @@ fn front_of(alloc: Global, last: &FileEntry, length: usize) -> Result<FileEntry,
 
 /// The end of a run.
 #[derive(Drop)]
-struct End {
-    status: Status,
+pub struct End {
+    pub status: Status,
     shelf: MemShelf,
-    sink: MemSink,
+    pub sink: MemSink,
 }
 
 // The files that the words of a run name.
@@ -161,8 +175,8 @@ fn entries_of(rt: &HostRuntime, files: &Files, run: &Run) -> io::Result<Vec<File
     Ok(entries)
 }
 
-// How a run over these files ends where these calls fail.
-fn end_of(
+/// How a run over these files ends where these calls fail.
+pub fn end_of(
     alloc: Global,
     entries: Vec<FileEntry>,
     run: &Run,
