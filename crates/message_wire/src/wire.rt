@@ -41,5 +41,6 @@ pub trait Wire {
     /// Makes room for so many more messages, whose frames have together so many bytes.
     fn reserve(&mut self, alloc: Global, posts: u32, bytes: u64) -> Result<(), AllocError>
         ensures kept { pushed self.new ≡ pushed self.old }
-        ensures room { OnOk result ((posts ≤ (room self.new).posts) × (bytes ≤ (room self.new).bytes)) };
+        ensures room { OnOk result ((posts ≤ (room self.new).posts) × (bytes ≤ (room self.new).bytes)) }
+        ensures err { OnErr result (room self.new ≡ room self.old) };
 }

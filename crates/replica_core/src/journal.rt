@@ -53,6 +53,9 @@ pub trait Taker {
     /// The bytes of the journal.
     ghost size: { Self → ℕ };
 
+    /// Whatever a crash leaves keeps one of two states.
+    ghost leaves: { Self → State → State → Type 0 };
+
     /// Takes a message: changes what is kept, and puts out the answer.
     fn take(&mut self, alloc: Global, message: &Message, out: &mut Outputs) -> Result<(), TakeFault>
         requires lawful { IsLawful message.now }
@@ -70,6 +73,7 @@ pub trait Taker {
         ensures shut { IsErrOf result TakeFault.Shut ↔ IsTrue (shut self.old) }
         ensures full { (bytes : ℕ) → IsErrOf result (TakeFault.Full bytes) ↔ ((shut self.old ≡ false) × IsTooMuch (size self.old) message.now bytes) }
         ensures disk_fault { IsErrOf result TakeFault.DiskFault → Rose (faults self.old) (faults self.new) × (state self.new ≡ state self.old) × (size self.new ≡ size self.old) }
+        ensures leaves { IsErrOf result TakeFault.DiskFault → leaves self.new (state self.old) (step (state self.old) message.now).state }
         ensures shuts { shut self.new ≡ (shut self.old || is_disk_fault result) }
         ensures calm { IsTrue (calm self.old) → (IsErrOf result TakeFault.DiskFault → ⊥) × IsTrue (calm self.new) }
         ensures refused { IsRefusal result → (state self.new ≡ state self.old) × (faults self.new ≡ faults self.old) × (calm self.new ≡ calm self.old) × (size self.new ≡ size self.old) }
@@ -85,7 +89,7 @@ pub trait Taker {
 }
 
 impl Taker for Replica {
-    ghost use Rattle.std.specs.Prelude.{true, false};
+    ghost use Rattle.std.specs.Prelude.{⊤, true, false};
     ghost use Rattle.std.proofs.Common.{rules};
 
     ghost state = { λ s. s };
@@ -97,6 +101,8 @@ impl Taker for Replica {
     ghost calm = { λ _. true };
 
     ghost size = { λ _. 0 };
+
+    ghost leaves = { λ _ _ _. ⊤ };
 
     fn take(
         &mut self,

@@ -11,7 +11,7 @@ use Rattle.replica_journal.specs.Disk.{History, IsImage, IsWithin, bytes_of}
 use Rattle.replica_journal.specs.Records.{IsRecord, IsAtRest, IsBeforeOrAfter, IsJournal, Keeps, body_of, records_of, state_after}
 use Rattle.replica_journal.specs.Appended.{Appended}
 use Rattle.replica_journal.specs.Journaled.{IsKeptBy, IsKeptIn}
-use Rattle.replica_journal.specs.Taken.{KeepsState, KeepsEither, IsTaken, Takes, taken_by}
+use Rattle.replica_journal.specs.Taken.{KeepsState, KeepsEither, LeavesEither, IsTaken, Takes, taken_by}
 use Rattle.replica_journal.proofs.Moments.{at_start, goes_on_here}
 use Rattle.replica_journal.proofs.Replays.{state_push}
 use Rattle.replica_journal.proofs.Rows.{some_closed}
@@ -49,6 +49,13 @@ pub still_refused : (told : Option History) (state : State) (place : Place) (mes
     → IsKeptIn told state place → Takes told told state message result
 still_refused told state place message result why is kept =
     subst (λ (r : Result (Unit {0}) TakeFault). Takes told told state message r) (sym is) (still state place message (Err why) tt told kept)
+
+-- at each moment a crash leaves the state from before or the one after the message, and so it does at the end
+pub leaves_either : (told told' : Option History) (state : State) (message : Message) (result : Result (Unit {0}) TakeFault) → Takes told told' state message result
+    → LeavesEither told' state (step state message).state
+leaves_either None told' state message result same = subst (λ (t : Option History). LeavesEither t state (step state message).state) (sym same) tt
+leaves_either (Some before) told' state message result (after, is, taken) =
+    subst (λ (t : Option History). LeavesEither t state (step state message).state) (sym is) (taken.moments after taken.on (goes_on_here after))
 
 -- a gate stands behind the records
 pub kept_within : (told : Option History) (state : State) (place : Place) → IsKeptIn told state place → IsWithin told (place.gate + 1)

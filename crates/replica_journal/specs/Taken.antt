@@ -36,6 +36,11 @@ abbrev pub Takes : Option History → Option History → State → Message → R
 Takes None new state message result = new ≡ None
 Takes (Some before) new state message result = (after : History) × (new ≡ Some after) × IsTaken before after state message result
 
+-- whatever a crash leaves of the disk, if that is told, keeps one of two states of a replica
+abbrev pub LeavesEither : Option History → State → State → Type 0
+LeavesEither None state state' = ⊤
+LeavesEither (Some history) state state' = (image : List ℕ) → IsImage history image → KeepsState state image ⊎ Keeps state.number (length state.kept) image state'
+
 -- where the journal ends once the message is taken
 abbrev pub place_after : Place → Message → Place
 place_after place message = record { gate = place.gate + record_size message; records = place.records + 1 }

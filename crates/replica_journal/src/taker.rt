@@ -6,7 +6,7 @@ ghost use Rattle.wire_msg.specs.Posts.{AreAnswersTo};
 ghost use Rattle.wire_msg.specs.Sizes.{bulk_of};
 ghost use Rattle.replica_core.specs.Rule.{request_key, step};
 ghost use Rattle.replica_core.specs.Taking.{IsLogged, IsRefusal, IsTooMuch, is_disk_fault, record_size};
-ghost use Rattle.replica_journal.specs.Taken.{Logs, Takes, place_after};
+ghost use Rattle.replica_journal.specs.Taken.{LeavesEither, Logs, Takes, place_after};
 
 use crate::disk::Disk;
 use crate::kept_replica::KeptReplica;
@@ -32,6 +32,8 @@ impl<D: Disk> Taker for KeptReplica<D> {
 
     ghost size = { λ k. k.place.gate };
 
+    ghost leaves = { λ k. LeavesEither (D.told k.disk) };
+
     fn take(&mut self, alloc: Global, message: &Message, out: &mut Outputs) -> Result<(), TakeFault>
         requires lawful { IsLawful message.now }
         requires empty { out.old ≡ nothing_out }
@@ -48,6 +50,7 @@ impl<D: Disk> Taker for KeptReplica<D> {
         ensures shut { IsErrOf result TakeFault.Shut ↔ IsTrue self.old.shut }
         ensures full { (bytes : ℕ) → IsErrOf result (TakeFault.Full bytes) ↔ ((self.old.shut ≡ false) × IsTooMuch self.old.place.gate message.now bytes) }
         ensures disk_fault { IsErrOf result TakeFault.DiskFault → Rose (D.faults self.old.disk) (D.faults self.new.disk) × (self.new.state ≡ self.old.state) × (self.new.place ≡ self.old.place) }
+        ensures leaves { IsErrOf result TakeFault.DiskFault → LeavesEither (D.told self.new.disk) self.old.state (step self.old.state message.now).state }
         ensures shuts { self.new.shut ≡ (self.old.shut || is_disk_fault result) }
         ensures calm { IsTrue (D.calm self.old.disk) → (IsErrOf result TakeFault.DiskFault → ⊥) × IsTrue (D.calm self.new.disk) }
         ensures refused { IsRefusal result → (self.new.state ≡ self.old.state) × (D.faults self.new.disk ≡ D.faults self.old.disk) × (D.calm self.new.disk ≡ D.calm self.old.disk) × (self.new.place ≡ self.old.place) }

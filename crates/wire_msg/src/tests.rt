@@ -178,7 +178,9 @@ fn a_yes_has_13_bytes(rt: HostRuntime) -> Result<(), Fail> {
         },
         replica: DcId(2),
     };
-    is_frame(&rt, rt.alloc(), &[&frame], message)
+    is_frame(&rt, rt.alloc(), &[&frame], message)?;
+    has_fault(&rt, rt.alloc(), &[&frame[..3], &[0; 4], &frame[7..]], 3)?;
+    has_fault(&rt, rt.alloc(), &[&frame[..7], &[0; 4], &frame[11..]], 7)
 }
 
 #[test]

@@ -4,7 +4,7 @@ use Rattle.std.proofs.lemmas.Result.{err_from_is_err_and}
 use Rattle.replica_core.specs.declared.journal.TakeFault.TheVariants as take_fault
 use Rattle.replica_journal.specs.Journaled.{Journaled}
 use Rattle.replica_journal.specs.Taken.{Takes}
-use Rattle.replica_journal.proofs.Takings.{still, still_refused}
+use Rattle.replica_journal.proofs.Takings.{still, still_refused, leaves_either}
 use Rattle.replica_journal.proofs.Unlogged.{unlogged_stays}
 use Rattle.replica_journal.proofs.taker.KeptReplicaTaker.take.Goals as goal
 
@@ -30,3 +30,7 @@ returns-then-bytes-gt-LIMIT-clause-takes g c = λ unshut.
     let bytes = c.size.result + 3 + c.from.result in
     subst (λ (v : Journaled g.row.D.Denot). Takes (g.D.Disk.told v.disk) (g.D.Disk.told v.disk) v.state c.args.message.now (Err (take_fault.Full bytes))) c.self.view_is
     (still_refused (g.D.Disk.told c.self.inside.disk) c.self.inside.replica c.self.inside.place c.args.message.now (Err (take_fault.Full bytes)) (take_fault.Full bytes) refl (c.self.invariant.kept open_then))
+
+pub returns-clause-leaves : goal.returns-clause-leaves
+returns-clause-leaves g c = λ failed.
+    leaves_either (g.D.Disk.told c.args.self.now.disk) (g.D.Disk.told c.log.new.self.disk) c.args.self.now.state c.args.message.now c.log.result c.log.ensures.takes
